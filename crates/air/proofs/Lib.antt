@@ -1,0 +1,8 @@
+pub mod Bits
+pub mod Places
+pub mod Collecting
+pub mod Mending
+pub mod Answers
+pub mod Restored
+pub mod Flipped
+pub mod Bursts

@@ -1,0 +1,20 @@
+-- Flips on the way: the places in which two headers on air differ.
+-- Assumes nothing.
+use mathlib.Core.Bool.{Bool, not}
+use mathlib.Core.List.{List}
+use Prim.Native.Nat.{ℕ, _+_, _*_}
+use lib.Dec.{eqb}
+use lib.ListN.{getD}
+use Rattle.base.specs.Lists.{howMany}
+use Rattle.air.specs.Air.{wordCount, positions, airBits}
+
+abbrev pub differsAt : List ℕ → List ℕ → ℕ → Bool
+differsAt x y n = not (eqb (getD x n 0) (getD y n 0))
+
+-- in how many of the 210 places
+unfoldable pub flipsBetween : List ℕ → List ℕ → ℕ
+flipsBetween x y = howMany airBits (differsAt x y)
+
+-- in how many places of word j
+unfoldable pub flipsInWord : List ℕ → List ℕ → ℕ → ℕ
+flipsInWord x y j = howMany positions (λ i. differsAt x y (wordCount * i + j))

@@ -1,0 +1,3 @@
+pub mod Air
+pub mod Mends
+pub mod Flips

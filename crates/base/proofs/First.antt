@@ -1,0 +1,57 @@
+-- The laws of `first`, for any answers and any table of checks: tables one after the other, and answers that no row gives.
+-- Assumes nothing.
+use mathlib.Core.Path.{_≡_, refl, ap}
+use mathlib.Core.Bool.{Bool, true, false, cond}
+use mathlib.Core.List.{List, [], _∷_, _++_}
+use Rattle.base.specs.Checks.{Check, first}
+
+module _ {A : Type 0} where
+  -- two tables, one after the other: the second is asked where no row of the first applies
+  pub first-append : (other : A) (ks ls : List (Check A)) → first other (ks ++ ls) ≡ first (first other ls) ks
+  first-append other [] ls = refl
+  first-append other (k ∷ ks) ls = ap (cond (k .applies) (k .gives)) (first-append other ks ls)
+
+  -- what the table gives, where that is not what it gives when no row applies
+  pub first-stays : (other new a : A) (ks : List (Check A)) → (other ≡ a → ⊥) → first other ks ≡ a → first new ks ≡ a
+  first-stays other new a [] n e = absurd (n e)
+  first-stays other new a (k ∷ ks) n e = by (λ h. first-stays other new a ks n h) (k .applies) refl
+    where
+      by : (first other ks ≡ a → first new ks ≡ a) → (b : Bool) → k .applies ≡ b → first new (k ∷ ks) ≡ a
+      by rest true t = rw t (rw t at e)
+      by rest false t = rw t (rest (rw t at e))
+
+  -- a is the answer of no row
+  abbrev pub Never : A → List (Check A) → Type 0
+  Never a [] = Unit {0}
+  Never a (k ∷ ks) = (k .gives ≡ a → ⊥) × Never a ks
+
+  -- what holds of what every row gives, and of `other`, holds of the answer
+  abbrev pub AllGive : (A → Type 0) → List (Check A) → Type 0
+  AllGive P [] = Unit {0}
+  AllGive P (k ∷ ks) = P (k .gives) × AllGive P ks
+
+  pub first-all : (P : A → Type 0) (other : A) (ks : List (Check A)) → P other → AllGive P ks → P (first other ks)
+  first-all P other [] p all = p
+  first-all P other (k ∷ ks) p all = by (first-all P other ks p (all .1)) (k .applies) refl
+    where
+      by : P (first other ks) → (b : Bool) → k .applies ≡ b → P (first other (k ∷ ks))
+      by rest true t = rw t (all .0)
+      by rest false t = rw t rest
+
+  -- no row applies
+  abbrev pub NoneApplies : List (Check A) → Type 0
+  NoneApplies [] = Unit {0}
+  NoneApplies (k ∷ ks) = (k .applies ≡ false) × NoneApplies ks
+
+  pub first-none : (other : A) (ks : List (Check A)) → NoneApplies ks → first other ks ≡ other
+  first-none other [] none = refl
+  first-none other (k ∷ ks) none = rw (none .0) (first-none other ks (none .1))
+
+  -- an answer of no row is given where no row applies
+  pub first-passes : (other a : A) (ks : List (Check A)) → Never a ks → first other ks ≡ a → (other ≡ a) × NoneApplies ks
+  first-passes other a [] n e = (e, tt)
+  first-passes other a (k ∷ ks) n e = by (λ h. first-passes other a ks (n .1) h) (k .applies) refl
+    where
+      by : (first other ks ≡ a → (other ≡ a) × NoneApplies ks) → (b : Bool) → k .applies ≡ b → (other ≡ a) × NoneApplies (k ∷ ks)
+      by rest true t = absurd (n .0 (rw t at e))
+      by rest false t = let r = rest (rw t at e) in (r .0, (t, r .1))

@@ -1,0 +1,12 @@
+pub mod Tests
+pub mod First
+pub mod Exactly
+pub mod Tabulate
+pub mod Fill
+pub mod Fold
+pub mod Lowest
+pub mod Xor
+pub mod Ones
+pub mod Sums
+pub mod Doubles
+pub mod Joined

@@ -1,0 +1,59 @@
+-- The flown rule: which header bits count, and what the nine bytes then are.
+-- Assumes nothing.
+use mathlib.Core.Path.{_≡_, ap, _∙_}
+use mathlib.Core.Logic.{_⊎_, ⊎-elim}
+use Prim.Native.Nat.{ℕ, _+_, _-_, _*_, _/_, _%_, _^_, _≤_, _<_}
+use native.Mathlib.Nat.{mod-lt}
+use native.Mathlib.Omega.{arith}
+use lib.ListN.{getD}
+use lib.Pow.{pow-pos, shr-shr}
+use Rattle.base.proofs.Xor.{high-none}
+use Rattle.crc.specs.Crc.{bitsOf}
+use Rattle.crc.specs.Crc5.{headerBit, filling, countedFlown}
+use Rattle.crc.proofs.Bits.{bit-of-low, bit-below, shift-above}
+use Rattle.crc.proofs.Nine.{bitIn, byte-bit, message-header, message-filling}
+
+module _ (n k : ℕ) where
+  low-lt : n % 2 ^ 34 < 2 ^ 38
+  low-lt = omega arith
+
+  -- header bits 0 to 31, and from 36 on
+  before : k < 32 → headerBit (countedFlown n) k ≡ headerBit n k
+  unfolding countedFlown headerBit
+  before h =
+      let e : 69 - k ≡ 38 + (31 - k) = omega arith in
+      rw e (ap (λ (x : ℕ). x % 2) (shift-above (n / 2 ^ 38) 38 (n % 2 ^ 34) low-lt (31 - k) ∙ shr-shr n 38 (31 - k)))
+
+  after : 36 ≤ k → headerBit (countedFlown n) k ≡ headerBit n k
+  unfolding countedFlown headerBit
+  after h =
+      bit-below (n / 2 ^ 38) 38 (n % 2 ^ 34) low-lt (69 - k) (omega arith) ∙ bit-of-low n 34 (69 - k) (omega arith)
+
+  -- header bits 32 to 35 count as zero
+  pub flown-lost : 32 ≤ k → k < 36 → headerBit (countedFlown n) k ≡ 0
+  unfolding countedFlown headerBit
+  flown-lost h l =
+      let e : 69 - k ≡ 34 + (35 - k) = omega arith in
+      bit-below (n / 2 ^ 38) 38 (n % 2 ^ 34) low-lt (69 - k) (omega arith)
+      ∙ rw e (ap (λ (x : ℕ). x % 2) (high-none 34 (35 - k) (n % 2 ^ 34) (mod-lt n (pow-pos 34))))
+
+  -- the others count as they are
+  pub flown-kept : (k < 32) ⊎ (36 ≤ k) → headerBit (countedFlown n) k ≡ headerBit n k
+  flown-kept = ⊎-elim before after
+
+-- bit k of the nine bytes' 72, by the flown rule
+pub record FlownBit (n k bit : ℕ) : Type 0 where
+  pub kept : k < 65 → (k < 32) ⊎ (36 ≤ k) → bit ≡ headerBit n k
+  pub lost : 32 ≤ k → k < 36 → bit ≡ 0
+  pub filled : 65 ≤ k → bit ≡ getD (bitsOf 7 filling) (k - 65) 0
+
+-- bit t of byte i is bit 8 i + t
+pub flown-bits : (n i t : ℕ) → i < 9 → t < 8 → FlownBit n (8 * i + t) (bitIn (countedFlown n) i t)
+flown-bits n i t hi ht =
+    let k = 8 * i + t in
+    let m = countedFlown n in
+    record {
+      kept = λ h there. byte-bit m i t hi ht ∙ message-header m k h ∙ flown-kept n k there;
+      lost = λ h l. byte-bit m i t hi ht ∙ message-header m k (omega arith) ∙ flown-lost n k h l;
+      filled = λ h. byte-bit m i t hi ht ∙ message-filling m k h (omega arith);
+    }

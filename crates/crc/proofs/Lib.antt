@@ -1,0 +1,9 @@
+pub mod Loop
+pub mod Width
+pub mod Linear
+pub mod Bits
+pub mod Nine
+pub mod TwoNumbers
+pub mod Flown
+pub mod Unseen
+pub mod Marked

@@ -1,0 +1,112 @@
+// Checksums, bit by bit: CRC13 of a payload and CRC5 of a header.
+ghost use mathlib.Core.Path.{_≡_};
+ghost use Prim.Native.Nat.{_+_, _*_, _<_, _^_};
+ghost use Rattle.crc.specs.Crc.{crcStep, crcOf, bitsOf, poly13, crc13Of};
+ghost use Rattle.crc.specs.Crc5.{poly5, countedFlown, crc5Over, crc5Of};
+
+// CRC13. The polynomial's x^13 is implied.
+const POLY13: u16 = 0x1CF5;
+
+const START13: u16 = 0x1FFF;
+
+// CRC5. The polynomial's x^5 is implied.
+const POLY5: u8 = 0x15;
+
+const START5: u8 = 0x1F;
+
+// What follows header bit 64.
+const FILLING: u64 = 0b1011011;
+
+// One bit. Each width has a step and a byte of its own: with width and polynomial as parameters they take three times as long.
+fn step13(crc: u16, bit: u8) -> u16
+    ensures { λ r. ⌜ r ≡ crcStep 13 poly13 crc bit ⌝ }
+{
+    let moved = crc % 0x1000 * 2;
+    if crc / 0x1000 != bit as u16 {
+        return moved ^ POLY13;
+    }
+    moved
+}
+
+// A byte, its most significant bit first.
+fn byte13(crc: u16, byte: u8) -> u16
+    ensures { λ r. ⌜ r ≡ crcOf 13 poly13 crc (bitsOf 8 byte) ⌝ }
+{
+    let mut state = crc;
+    let mut t: u8 = 0;
+    while t < 8 {
+        state = step13(state, (byte >> (7 - t)) % 2);
+        t += 1;
+    }
+    state
+}
+
+// CRC13 of a payload of any length, from its last byte to its first.
+pub fn crc13(payload: &[u8]) -> u16
+    ensures { λ r. ⌜ r ≡ crc13Of (now (payload .entry)) ⌝ }
+{
+    let mut crc = START13;
+    let mut i = payload.len();
+    while 0 < i {
+        crc = byte13(crc, payload[i - 1]);
+        i -= 1;
+    }
+    crc
+}
+
+// One bit and one byte of CRC5.
+fn step5(crc: u8, bit: u8) -> u8
+    ensures { λ r. ⌜ r ≡ crcStep 5 poly5 crc bit ⌝ }
+{
+    let moved = crc % 0x10 * 2;
+    if crc / 0x10 != bit {
+        return moved ^ POLY5;
+    }
+    moved
+}
+
+fn byte5(crc: u8, byte: u8) -> u8
+    ensures { λ r. ⌜ r ≡ crcOf 5 poly5 crc (bitsOf 8 byte) ⌝ }
+{
+    let mut state = crc;
+    let mut t: u8 = 0;
+    while t < 8 {
+        state = step5(state, (byte >> (7 - t)) % 2);
+        t += 1;
+    }
+    state
+}
+
+// CRC5 of the header bits that count, from the last byte to the first: `hi` is header bits 0 to 29, `lo` header bits 30 to 69.
+fn crc5_over(hi: u64, lo: u64) -> u8
+    requires { ⌜ hi < 2 ^ 30 ⌝ }
+    requires { ⌜ lo < 2 ^ 40 ⌝ }
+    ensures { λ r. ⌜ r ≡ crc5Over (hi * 2 ^ 40 + lo) ⌝ }
+{
+    // Byte 8 is header bit 64 and the filling; bytes 0 to 7 are header bits 0 to 63.
+    let last = lo / 0x20 % 2 * 0x80 + FILLING;
+    let eight = hi * 0x4_0000_0000 + lo / 0x40;
+    let mut crc = byte5(START5, last as u8);
+    let mut i: u64 = 8;
+    while 0 < i {
+        crc = byte5(crc, ((eight >> (64 - 8 * i)) % 0x100) as u8);
+        i -= 1;
+    }
+    crc
+}
+
+// The flown rule, which touches only `lo`: header bits 32 to 35 count as zero.
+fn counted_flown(lo: u64) -> u64
+    ensures { λ r. ⌜ r ≡ countedFlown lo ⌝ }
+{
+    lo / 0x40_0000_0000 * 0x40_0000_0000 + lo % 0x4_0000_0000
+}
+
+// CRC5 of a header, by the flown rule.
+pub fn crc5(hi: u64, lo: u64) -> u8
+    requires { ⌜ hi < 2 ^ 30 ⌝ }
+    requires { ⌜ lo < 2 ^ 40 ⌝ }
+    ensures { λ r. ⌜ r ≡ crc5Of (hi * 2 ^ 40 + lo) ⌝ }
+{
+    crc5_over(hi, counted_flown(lo))
+}

@@ -1,0 +1,5 @@
+pub mod Payloads
+pub mod Demand2
+pub mod Bounds
+pub mod Demand3
+pub mod Limit

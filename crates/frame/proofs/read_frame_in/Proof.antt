@@ -1,0 +1,35 @@
+-- `frame::read_frame_in` meets its contract: a refused header refuses the frame, an accepted one leaves it to the payload.
+-- Assumes nothing.
+use borrow.Author.Needs.{needs}
+use Rattle.frame.proofs.Payloads.{frame-refused, frame-left}
+use Rattle.frame.proofs.read_frame_in.Statement.{statement}
+use Rattle.frame.proofs.read_frame_in.Tie as tie
+
+read-header-in-requires : tie.Need-read-header-in-requires
+read-header-in-requires c κs = search needs
+
+enum-known-why : tie.Need-enum-known-why
+enum-known-why c = search needs
+
+enum-known-repaired : tie.Need-enum-known-repaired
+enum-known-repaired c = search needs
+
+judge-payload-requires : tie.Need-judge-payload-requires
+judge-payload-requires c κs = search needs
+
+returns : tie.Need-returns
+returns c = search (needs, frame-refused)
+
+returns-2 : tie.Need-returns-2
+returns-2 c = search (needs, frame-left)
+
+pub read-frame-in-spec : {M : Type 1} → statement M
+read-frame-in-spec =
+    tie.close
+    (tie.spec
+    read-header-in-requires
+    enum-known-why
+    enum-known-repaired
+    judge-payload-requires
+    returns
+    returns-2)

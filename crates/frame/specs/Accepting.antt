@@ -1,0 +1,34 @@
+-- DEMAND 2, as a statement of its own: which frames "the published rules accept", with which header and how many flips.
+-- It is written from the paper's rules, and names no reader.
+-- Assumes nothing.
+use mathlib.Core.Path.{_≡_}
+use mathlib.Core.List.{List}
+use Prim.Native.Nat.{ℕ, _<_, _≤_}
+use lib.ListN.{length, getD}
+use Rattle.base.specs.Lists.{sumTo, AreBits}
+use Rattle.word.specs.Words.{Valid, distance}
+use Rattle.crc.specs.Crc.{crc13Of}
+use Rattle.crc.specs.Crc5.{crc5Of}
+use Rattle.air.specs.Air.{wordCount, airBits, wordAt}
+use Rattle.header.specs.declared.Header.{Header}
+use Rattle.header.specs.Fields.{headerOf, bitsOfWords}
+
+pub record Accepts (air payload : List ℕ) (header : Header) (flips : ℕ) : Type 0 where
+  -- "The header arrives as 210 bytes, each 0 or 1."
+  pub long : length air ≡ airBits
+  pub bits : AreBits air
+  -- "A word becomes the valid word that differs in at most three places": fourteen such words
+  pub words : List ℕ
+  pub fourteen : length words ≡ wordCount
+  pub valid : (j : ℕ) → j < wordCount → Valid (getD words j 0)
+  pub near : (j : ℕ) → j < wordCount → distance (wordAt air j) (getD words j 0) ≤ 3
+  -- the header is made of their data
+  pub made : header ≡ headerOf (bitsOfWords words)
+  -- the checks of the paper's table, 4 to 8, do not apply
+  pub same-crc5 : crc5Of (bitsOfWords words) ≡ header .«crc5»
+  pub known-source : header .«fields» .«src_id» ≤ 7
+  pub known-coding : header .«fields» .«ai_type_src» ≤ 3
+  pub same-length : length payload ≡ header .«pdu_length»
+  pub same-crc13 : crc13Of payload ≡ header .«crc13»
+  -- the flips are the places in which the words differ from those that they became
+  pub counted : flips ≡ sumTo wordCount (λ j. distance (wordAt air j) (getD words j 0))

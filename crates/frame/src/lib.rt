@@ -1,0 +1,52 @@
+// A frame: header and payload together.
+use base::Refusal;
+use header::Answer;
+use header::Header;
+ghost use mathlib.Core.Path.{_≡_};
+ghost use Rattle.base.specs.Checks.{first};
+ghost use Rattle.word.specs.Repairs.{syndromes};
+ghost use Rattle.frame.specs.Frames.{payloadChecks, frameOf};
+
+// Checks 7 and 8 on the payload of an accepted header.
+fn judge_payload(header: Header, flips: u32, payload: &[u8]) -> Answer
+    ensures { λ r. ⌜ r ≡ first (Answer.Accepted header flips) (payloadChecks header (now (payload .entry))) ⌝ }
+{
+    let pdu_length = header.pdu_length as usize;
+    if payload.len() != pdu_length {
+        return Answer::Refused(Refusal {
+            number: 7,
+            place: pdu_length,
+        });
+    }
+    let crc13 = crc::crc13(payload);
+    if crc13 != header.crc13 {
+        return Answer::Refused(Refusal {
+            number: 8,
+            place: crc13 as usize,
+        });
+    }
+    Answer::Accepted { header, flips }
+}
+
+// The reader, by a lent copy of the syndrome table: what a caller with many frames copies once.
+pub fn read_frame_in(table: &[u16; 1024], header: &[u8], payload: &[u8]) -> Answer
+    requires { ⌜ now table ≡ syndromes ⌝ }
+    ensures { λ r. ⌜ r ≡ frameOf (now (header .entry)) (now (payload .entry)) ⌝ }
+{
+    match header::read_header_in(table, header) {
+        Answer::Refused(why) => Answer::Refused(why),
+        Answer::Accepted {
+            header: repaired,
+            flips,
+        } => judge_payload(repaired, flips, payload),
+    }
+}
+
+// The reader of any two slices: accepted with the repaired header and the number of flips, or the first refusal of 1 to 8.
+// A checksum that differs is a refusal, so it is never told beside an accepted frame.
+pub fn read_frame(header: &[u8], payload: &[u8]) -> Answer
+    ensures { λ r. ⌜ r ≡ frameOf (now (header .entry)) (now (payload .entry)) ⌝ }
+{
+    let table = word::table::whole();
+    read_frame_in(&table, header, payload)
+}

@@ -1,0 +1,12 @@
+pub mod Unpacking
+pub mod WordData
+pub mod Judging
+pub mod Rows
+pub mod Ranges
+pub mod Coding
+pub mod Packing
+pub mod Refusing
+pub mod Places
+pub mod Carried
+pub mod RoundTrip
+pub mod GoesOn

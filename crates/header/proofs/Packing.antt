@@ -1,0 +1,80 @@
+-- The bits that are written: the fields' values, PduLength and CRC13 make two numbers, and CRC5 is added to the lower.
+-- Assumes nothing.
+use mathlib.Core.Path.{_≡_, refl, sym, ap, ap₂, _∙_}
+use mathlib.Core.List.{List, [], _∷_, _++_}
+use Prim.Native.Nat.{ℕ, _+_, _*_, _^_, _≤_, _<_}
+use native.Mathlib.Nat.{lt-of-le-of-lt, add-zero}
+use native.Mathlib.Omega.{arith}
+use lib.Dec.{ltb, ltb→lt}
+use lib.ListN.{length, getD, take, drop}
+use mir.Syntax.{w64}
+use mir.Val.{Fits}
+use Rattle.base.specs.Lists.{lowest}
+use Rattle.base.specs.Parts.{joined, InWidths, none, part}
+use Rattle.base.proofs.Lowest.{every-below}
+use Rattle.base.proofs.Joined.{join-above, join-lt, join-append, within-all, within-append, within-front, within-rest}
+use Rattle.crc.specs.Crc.{crc13Of}
+use Rattle.crc.specs.Crc5.{crc5Of}
+use Rattle.crc.proofs.Width.{crc13-lt, crc5-lt}
+use Rattle.header.specs.declared.Fields.{Fields}
+use Rattle.header.specs.Fields.{upperWidths, lowerWidths, widths, fieldCount, valuesOf}
+use Rattle.header.specs.Writing.{mostOf, firstOver, payloadLimit, bitsWith, bitsFor}
+use Rattle.header.proofs.Ranges.{in-range}
+
+-- a bound is within its field's width
+most-lt : (k : ℕ) → k < fieldCount → mostOf k < 2 ^ getD (take fieldCount widths) k 0
+unfolding lowest
+most-lt k h = ltb→lt (mostOf k) (2 ^ getD (take fieldCount widths) k 0) (every-below fieldCount (λ k. ltb (mostOf k) (2 ^ getD (take fieldCount widths) k 0)) refl k h)
+
+abbrev written : List ℕ → ℕ → List ℕ
+written payload crc5 = length payload ∷ crc13Of payload ∷ crc5 ∷ []
+
+module _ (f : Fields) (payload : List ℕ) (ranges : fieldCount ≤ firstOver (valuesOf f)) (short : length payload ≤ payloadLimit) where
+  pub values-within : (crc5 : ℕ) → crc5 < 32 → InWidths widths (valuesOf f ++ written payload crc5)
+  values-within crc5 h =
+      within-append
+      (within-all (take fieldCount widths) (valuesOf f) refl (λ k below. lt-of-le-of-lt (in-range (valuesOf f) ranges k below) (most-lt k below)))
+      (part {w = 10} (omega arith) (part {w = 13} (crc13-lt payload) (part {w = 5} h none)))
+
+  module _ (crc13 hi lo : ℕ) (worked13 : crc13 ≡ crc13Of payload) (above : hi ≡ joined upperWidths (take 6 (valuesOf f)))
+      (lower : lo ≡ joined lowerWidths (drop 6 (valuesOf f) ++ (length payload ∷ crc13 ∷ 0 ∷ []))) where
+    below : lo ≡ joined lowerWidths (drop 6 (valuesOf f) ++ written payload 0)
+    below = rw worked13 at lower
+
+    upper-within : InWidths upperWidths (take 6 (valuesOf f))
+    upper-within = within-front upperWidths lowerWidths (take 6 (valuesOf f)) (drop 6 (valuesOf f) ++ written payload 0) refl (values-within 0 (omega arith))
+
+    lower-within : (crc5 : ℕ) → crc5 < 32 → InWidths lowerWidths (drop 6 (valuesOf f) ++ written payload crc5)
+    lower-within crc5 h = within-rest upperWidths lowerWidths (take 6 (valuesOf f)) (drop 6 (valuesOf f) ++ written payload crc5) refl (values-within crc5 h)
+
+    pub hi-lt : hi < 2 ^ 30
+    hi-lt = rw above (join-lt upper-within)
+
+    pub lo-lt : lo < 2 ^ 40
+    lo-lt = rw below (join-lt (lower-within 0 (omega arith)))
+
+    -- the last part is added
+    with-crc5 : (crc5 : ℕ) → joined lowerWidths (drop 6 (valuesOf f) ++ written payload crc5) ≡ lo + crc5
+    with-crc5 crc5 = rw (below, add-zero)
+
+    two-numbers : (crc5 : ℕ) → crc5 < 32 → bitsWith f payload crc5 ≡ hi * 2 ^ 40 + (lo + crc5)
+    two-numbers crc5 h =
+        join-append 0 upperWidths lowerWidths (take 6 (valuesOf f)) (drop 6 (valuesOf f) ++ written payload crc5) refl
+        ∙ join-above (joined upperWidths (take 6 (valuesOf f))) (lower-within crc5 h)
+        ∙ ap₂ (λ (a b : ℕ). a * 2 ^ 40 + b) (sym above) (with-crc5 crc5)
+
+    module _ (crc5 : ℕ) (worked : crc5 ≡ crc5Of (hi * 2 ^ 40 + lo)) where
+      crc5-small : crc5 < 32
+      crc5-small = rw worked (crc5-lt (hi * 2 ^ 40 + lo))
+
+      pub whole-lt : lo + crc5 < 2 ^ 40
+      whole-lt = rw (← with-crc5 crc5) (join-lt (lower-within crc5 crc5-small))
+
+      pub whole-fits : Fits w64 (lo + crc5)
+      whole-fits = record { fits = omega (arith, whole-lt) }
+
+      pub packed : hi * 2 ^ 40 + (lo + crc5) ≡ bitsFor f payload
+      unfolding bitsFor
+      packed =
+          let first : bitsWith f payload 0 ≡ hi * 2 ^ 40 + lo = two-numbers 0 (omega arith) ∙ ap (λ (n : ℕ). hi * 2 ^ 40 + n) (add-zero lo) in
+          sym (ap (λ (n : ℕ). bitsWith f payload (crc5Of n)) first ∙ ap (bitsWith f payload) (sym worked) ∙ two-numbers crc5 crc5-small)

@@ -1,0 +1,66 @@
+-- A header written: refused with 13 to 15, or its 210 bits.
+-- Assumes nothing.
+use mathlib.Core.Path.{_≡_}
+use mathlib.Core.Bool.{cond}
+use mathlib.Core.List.{List, [], _∷_, _++_}
+use Prim.Native.Nat.{ℕ, _-_, _^_}
+use lib.Dec.{eqb, ltb}
+use lib.ListN.{length, getD, drop}
+use Rattle.base.specs.Checks.{Check, check, first, refusal}
+use Rattle.base.specs.Lists.{lowest}
+use Rattle.base.specs.Parts.{joined}
+use Rattle.crc.specs.Crc.{crc13Of}
+use Rattle.crc.specs.Crc5.{crc5Of}
+use Rattle.air.specs.Air.{airBits, airOf}
+use Rattle.header.specs.declared.Fields.{Fields}
+use Rattle.header.specs.declared.Written.{Written}
+use Rattle.header.specs.declared.Written.the-variants.{Done, Refused}
+use Rattle.header.specs.Fields.{widths, fieldCount, valuesOf, codedOf}
+
+-- the most that field k may be: "widths bound it, also SrcId to 7 and AiTypeSrc to 3"
+abbrev pub mostOf : ℕ → ℕ
+mostOf k = cond (eqb k 0) 7 (cond (eqb k 5) 3 (2 ^ getD widths k 0 - 1))
+
+-- "the lowest such field's number in the list above, from 0"; 14 where all are in range
+abbrev pub firstOver : List ℕ → ℕ
+firstOver values = lowest fieldCount (λ k. ltb (mostOf k) (getD values k 0))
+
+-- "a payload of at most 1,023 bytes": "the field has 10 bits, so 1,023 is the limit"
+abbrev pub payloadLimit : ℕ
+payloadLimit = 1023
+
+-- the paper's rows 13 to 15
+abbrev pub writeChecks : Fields → List ℕ → ℕ → List (Check Written)
+writeChecks f payload room =
+    -- "output under 210": its length
+    check (ltb room airBits) (Refused (refusal 13 room))
+    -- "a field out of range"
+    ∷ check (ltb (firstOver (valuesOf f)) fieldCount) (Refused (refusal 14 (firstOver (valuesOf f))))
+    -- "payload over 1,023": its length
+    ∷ check (ltb payloadLimit (length payload)) (Refused (refusal 15 (length payload)))
+    ∷ []
+
+unfoldable pub writeHeaderOf : Fields → List ℕ → ℕ → Written
+writeHeaderOf f payload room = first Done (writeChecks f payload room)
+
+-- "The writer works out PduLength and both checksums": the header's bits, with some CRC5
+abbrev pub bitsWith : Fields → List ℕ → ℕ → ℕ
+bitsWith f payload crc5 = joined widths (valuesOf f ++ (length payload ∷ crc13Of payload ∷ crc5 ∷ []))
+
+-- CRC5 is worked out from bits 0 to 64, so of the header without it
+unfoldable pub bitsFor : Fields → List ℕ → ℕ
+bitsFor f payload = bitsWith f payload (crc5Of (bitsWith f payload 0))
+
+-- the 210 bits on air
+unfoldable pub airFor : Fields → List ℕ → List ℕ
+airFor f payload = airOf (codedOf (bitsFor f payload))
+
+-- the output afterwards: "bytes past 210 keep what they held", and on a refusal all do
+abbrev pub afterWrite : Written → Fields → List ℕ → List ℕ → List ℕ
+afterWrite Done f payload out = airFor f payload ++ drop airBits out
+afterWrite (Refused why) f payload out = out
+
+-- what a call of the writer leaves: its answer, and every byte of the output
+pub record HeaderWritten (f : Fields) (payload before : List ℕ) (answer : Written) (after : List ℕ) : Type 0 where
+  pub answered : answer ≡ writeHeaderOf f payload (length before)
+  pub bytes : after ≡ afterWrite answer f payload before

@@ -1,0 +1,11 @@
+pub mod Widths
+pub mod Head
+pub mod Answer
+pub mod Twos
+pub mod RowBytes
+pub mod RoundTrip
+pub mod Values
+pub mod Exact
+pub mod Spreads
+pub mod Worked
+pub mod Printed

@@ -1,0 +1,5 @@
+pub mod Bytes
+pub mod Rows
+pub mod Fields
+pub mod Payload
+pub mod Shown

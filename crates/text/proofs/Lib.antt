@@ -1,0 +1,6 @@
+pub mod Decimal
+pub mod ReadBack
+pub mod Laid
+pub mod Copying
+pub mod Counting
+pub mod Spelling

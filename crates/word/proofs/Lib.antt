@@ -1,0 +1,8 @@
+pub mod Multiples
+pub mod Valids
+pub mod Nearest
+pub mod Division
+pub mod Rows
+pub mod Answer
+pub mod Turns
+pub mod Marked

@@ -1,0 +1,70 @@
+-- Repair: the nearest valid word, what is answered of it, and the table of flip patterns.
+-- Assumes nothing.
+use mathlib.Core.Bool.{Bool, true, false, cond}
+use mathlib.Core.List.{List}
+use Prim.Native.Nat.{ℕ}
+use lib.Bits.{bitXor}
+use lib.Dec.{leb, ltb}
+use Rattle.base.specs.Lists.{lowest, tabulate}
+use Rattle.word.specs.Words.{wordLimit, multipleOf, dataOf, encodeOf, distance}
+use Rattle.word.specs.declared.Repaired.{Repaired}
+use Rattle.word.specs.declared.Repaired.the-variants.{Word, Beyond}
+
+-- the nearest valid word, if there is one
+pub data Near : Type 0 where
+  at : ℕ → Near
+  none : Near
+
+-- the valid word of multiplier q differs from w in at most three places
+abbrev pub within : ℕ → ℕ → Bool
+within w q = leb (distance w (multipleOf q)) 3
+
+-- "the valid word that differs in at most three places, if there is one": the first of the 32 that does
+abbrev pub nearestWord : ℕ → Near
+nearestWord q = cond (ltb q 32) (at (multipleOf q)) none
+
+-- "A number above 32,767 is no word: both call it beyond repair"
+unfoldable pub nearest : ℕ → Near
+nearest w = cond (ltb w wordLimit) (nearestWord (lowest 32 (within w))) none
+
+-- what is answered of the nearest valid word: it, and the number of places in which w differs from it
+abbrev pub answerOf : ℕ → Near → Repaired
+answerOf w (at v) = Word v (distance w v)
+answerOf w none = Beyond
+
+-- the answer of repair
+unfoldable pub repairOf : ℕ → Repaired
+repairOf w = answerOf w (nearest w)
+
+-- the parts of an answer; 0 where there is none
+abbrev pub isBeyond : Repaired → Bool
+isBeyond (Word v n) = false
+isBeyond Beyond = true
+
+abbrev pub wordOf : Repaired → ℕ
+wordOf (Word v n) = v
+wordOf Beyond = 0
+
+abbrev pub flipsOf : Repaired → ℕ
+flipsOf (Word v n) = n
+flipsOf Beyond = 0
+
+-- the remainder modulo 0x537: the multiple with the same five highest coefficients is taken off
+unfoldable pub remainderOf : ℕ → ℕ
+remainderOf w = bitXor w (encodeOf (dataOf w))
+
+-- the flips from w to the nearest valid word as a number; where there is none, the mark of a word "beyond repair"
+abbrev pub mark : ℕ
+mark = 65535
+
+abbrev pub flipsTo : ℕ → Near → ℕ
+flipsTo w (at v) = bitXor w v
+flipsTo w none = mark
+
+-- a row of the table: the flips of the words with the remainder r
+unfoldable pub rowOf : ℕ → ℕ
+rowOf r = flipsTo r (nearest r)
+
+-- "The table is indexed by the 10-bit remainder modulo 0x537: 1,024 rows"
+unfoldable pub syndromes : List ℕ
+syndromes = tabulate 1024 rowOf

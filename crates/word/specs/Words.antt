@@ -1,0 +1,44 @@
+-- Words, the 32 valid ones, and in how many places two words differ.
+-- "Position i is the coefficient of x^i, and bit i when the word is written as a number", so the sum of two words is `bitXor`.
+-- Assumes nothing.
+use mathlib.Core.Path.{_≡_}
+use Prim.Native.Nat.{ℕ, zero, suc, _*_, _/_, _%_, _^_, _<_}
+use lib.Bits.{bitXor}
+use lib.Count.{onesIn}
+use lib.Dec.{eqb}
+use Rattle.base.specs.Lists.{lowest}
+
+-- numbers below it are words: "A number above 32,767 is no word"
+abbrev pub wordLimit : ℕ
+wordLimit = 2 ^ 15
+
+-- the product of two polynomials, of which a has k coefficients
+abbrev pub product : ℕ → ℕ → ℕ → ℕ
+product zero a b = 0
+product (suc k) a b = bitXor (a % 2 * b) (product k (a / 2) (b * 2))
+
+-- "0x537 (x^10+x^8+x^5+x^4+x^2+x+1)"
+abbrev pub generator : ℕ
+generator = 0x537
+
+-- its multiple with the multiplier q. Of degree below 15 it is where q is of degree below 5, so q has five coefficients
+unfoldable pub multipleOf : ℕ → ℕ
+multipleOf q = product 5 q generator
+
+-- "A valid word is a multiple, of degree below 15, of 0x537 .. There are 32"
+pub record Valid (v : ℕ) : Type 0 where
+  pub multiplier : ℕ
+  pub small : multiplier < 32
+  pub is : multipleOf multiplier ≡ v
+
+-- the five data bits of a word: header bit 5j+t "stands at position 14-t", so they are its five highest
+abbrev pub dataOf : ℕ → ℕ
+dataOf w = w / 2 ^ 10
+
+-- the valid word whose data are d
+unfoldable pub encodeOf : ℕ → ℕ
+encodeOf d = multipleOf (lowest 32 (λ q. eqb (dataOf (multipleOf q)) d))
+
+-- the number of places, of 15, in which a and b differ
+unfoldable pub distance : ℕ → ℕ → ℕ
+distance a b = onesIn 15 (bitXor a b)

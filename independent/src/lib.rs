@@ -1,0 +1,36 @@
+//! S-NET air headers, power pages and the pass sheet.
+//!
+//! A second implementation of paper 01, written from the papers alone, so that two programs that share
+//! no thought can be compared line by line. It prefers the plain way over the quick one: words are
+//! repaired by trying all 32 valid words, checksums run bit by bit.
+//!
+//! | module | part of paper 01 |
+//! |---|---|
+//! | [`refusal`] | "a refusal carries number and place only" |
+//! | [`word`] | valid words, repair |
+//! | [`air`] | 210 elements on air, fourteen words |
+//! | [`crc`] | CRC13, and the bit-by-bit rule of both checksums |
+//! | [`header`] | fields, CRC5, header read (1 to 6) and written (13 to 15) |
+//! | [`frame`] | header and payload together (7, 8) |
+//! | [`page`] | payload header, power page read (9 to 12) and written (18) |
+//! | [`shown`] | the shown value (16) |
+//! | [`sheet`] | the pass sheet (17) |
+//! | [`listing`] | the listing |
+//!
+//! The rest makes material to compare with: [`rng`], [`sample`], [`season`], [`example`], [`vectors`].
+
+pub mod air;
+pub mod crc;
+pub mod example;
+pub mod frame;
+pub mod header;
+pub mod listing;
+pub mod page;
+pub mod refusal;
+pub mod rng;
+pub mod sample;
+pub mod season;
+pub mod sheet;
+pub mod shown;
+pub mod vectors;
+pub mod word;

@@ -1,0 +1,219 @@
+//! The listing of a pass: records in, a line for each out.
+
+use std::io::{self, ErrorKind, Read, Write};
+
+use crate::air::AIR_BITS;
+use crate::header::{Field, LONGEST_PAYLOAD};
+use crate::sheet::Sheet;
+
+/// What can fail in a listing; no input can.
+#[derive(Debug)]
+pub enum Failure {
+    /// The input could not be read on.
+    Read(io::Error),
+    /// The output could not be written on.
+    Write(io::Error),
+}
+
+/// Lists the records of `input` to `output`, one record in memory at a time.
+///
+/// Both should be buffered. Where reading fails, the lines up to there are written and no last line.
+pub fn list(input: &mut impl Read, output: &mut impl Write) -> Result<(), Failure> {
+    let listed = list_records(input, output);
+    let flushed = output.flush().map_err(Failure::Write);
+    listed.and(flushed)
+}
+
+fn list_records(input: &mut impl Read, output: &mut impl Write) -> Result<(), Failure> {
+    writeln!(output, "pass sheet").map_err(Failure::Write)?;
+    let mut sheet = Sheet::new();
+    let mut record = RecordBuffer::new();
+    loop {
+        let next = record.read_from(input).map_err(Failure::Read)?;
+        let goes_on = match next {
+            Next::End => break,
+            Next::Cut => false,
+            Next::Whole => list_record(&mut sheet, &record, output).map_err(Failure::Write)?,
+        };
+        if !goes_on {
+            writeln!(output, "cut").map_err(Failure::Write)?;
+            break;
+        }
+    }
+    let (heard, accepted, refused) = (
+        sheet.offered(),
+        sheet.accepted_total(),
+        sheet.refused_total(),
+    );
+    writeln!(
+        output,
+        "heard {heard} accepted {accepted} refused {refused}"
+    )
+    .map_err(Failure::Write)
+}
+
+/// Offers a record to the sheet and writes its line; false where the sheet is full, "a further record
+/// for a full sheet does the same" as one that ends early.
+fn list_record(
+    sheet: &mut Sheet,
+    record: &RecordBuffer,
+    output: &mut impl Write,
+) -> io::Result<bool> {
+    if sheet.is_full() {
+        return Ok(false);
+    }
+    let number = sheet.offered();
+    let payload = record.payload();
+    match sheet.offer(&record.header, payload) {
+        Ok(heard) => {
+            let src_id = heard.header[Field::SrcId];
+            let satellite = ['A', 'B', 'C', 'D'][usize::from(src_id / 2)];
+            let radio = src_id % 2 + 1;
+            let (tx, flips, bytes) = (heard.header[Field::FrCntTx], heard.flips, payload.len());
+            writeln!(
+                output,
+                "{number} accepted {satellite} radio {radio} tx {tx} repaired {flips} bytes {bytes}"
+            )?;
+        }
+        Err(refusal) => writeln!(output, "{number} {refusal}")?,
+    }
+    Ok(true)
+}
+
+/// What stood at the input's present place.
+#[derive(Debug, PartialEq, Eq)]
+enum Next {
+    /// A whole record, now in the buffer.
+    Whole,
+    /// Nothing.
+    End,
+    /// "A length over 1,023 or a record that ends early."
+    Cut,
+}
+
+/// Room for one record.
+struct RecordBuffer {
+    header: [u8; AIR_BITS],
+    payload: [u8; LONGEST_PAYLOAD],
+    length: usize,
+}
+
+impl RecordBuffer {
+    fn new() -> RecordBuffer {
+        RecordBuffer {
+            header: [0; AIR_BITS],
+            payload: [0; LONGEST_PAYLOAD],
+            length: 0,
+        }
+    }
+
+    fn payload(&self) -> &[u8] {
+        &self.payload[..self.length]
+    }
+
+    /// "A two-byte length, high byte first, 210 header bytes, that many payload bytes."
+    fn read_from(&mut self, input: &mut impl Read) -> io::Result<Next> {
+        let mut length = [0; 2];
+        match read_full(input, &mut length)? {
+            0 => return Ok(Next::End),
+            1 => return Ok(Next::Cut),
+            _ => self.length = usize::from(u16::from_be_bytes(length)),
+        }
+        let Some(payload) = self.payload.get_mut(..self.length) else {
+            return Ok(Next::Cut);
+        };
+        if read_full(input, &mut self.header)? < self.header.len()
+            || read_full(input, payload)? < payload.len()
+        {
+            return Ok(Next::Cut);
+        }
+        Ok(Next::Whole)
+    }
+}
+
+/// Reads until the buffer is full or the input ends, and tells how many bytes came.
+fn read_full(input: &mut impl Read, buffer: &mut [u8]) -> io::Result<usize> {
+    let mut filled = 0;
+    while filled < buffer.len() {
+        match input.read(&mut buffer[filled..]) {
+            Ok(0) => break,
+            Ok(count) => filled += count,
+            Err(error) if error.kind() == ErrorKind::Interrupted => {}
+            Err(error) => return Err(error),
+        }
+    }
+    Ok(filled)
+}
+
+#[cfg(test)]
+mod tests {
+    use super::*;
+
+    /// Gives one byte a time, is interrupted before each, and fails at the end if told to.
+    struct Trickle<'a> {
+        bytes: &'a [u8],
+        interrupted: bool,
+        fails: bool,
+    }
+
+    impl Read for Trickle<'_> {
+        fn read(&mut self, buffer: &mut [u8]) -> io::Result<usize> {
+            self.interrupted = !self.interrupted;
+            if self.interrupted {
+                return Err(ErrorKind::Interrupted.into());
+            }
+            match self.bytes.split_first() {
+                None if self.fails => Err(ErrorKind::TimedOut.into()),
+                None => Ok(0),
+                Some((first, rest)) => {
+                    buffer[0] = *first;
+                    self.bytes = rest;
+                    Ok(1)
+                }
+            }
+        }
+    }
+
+    fn trickle(bytes: &[u8], fails: bool) -> (Result<(), Failure>, String) {
+        let mut input = Trickle {
+            bytes,
+            interrupted: false,
+            fails,
+        };
+        let mut output = Vec::new();
+        let result = list(&mut input, &mut output);
+        (result, String::from_utf8(output).unwrap())
+    }
+
+    #[test]
+    fn a_trickling_input_is_listed_like_any_other() {
+        let (result, lines) = trickle(&[0; 212], false);
+        assert!(result.is_ok());
+        assert_eq!(
+            lines,
+            "pass sheet\n0 refused 4 6\nheard 1 accepted 0 refused 1\n"
+        );
+    }
+
+    #[test]
+    fn a_failed_read_is_no_cut() {
+        let (result, lines) = trickle(&[0; 300], true);
+        assert!(matches!(result, Err(Failure::Read(e)) if e.kind() == ErrorKind::TimedOut));
+        assert_eq!(lines, "pass sheet\n0 refused 4 6\n");
+    }
+
+    #[test]
+    fn a_failed_write_is_told() {
+        struct Closed;
+        impl Write for Closed {
+            fn write(&mut self, _: &[u8]) -> io::Result<usize> {
+                Err(ErrorKind::BrokenPipe.into())
+            }
+            fn flush(&mut self) -> io::Result<()> {
+                Ok(())
+            }
+        }
+        let result = list(&mut io::empty(), &mut Closed);
+        assert!(matches!(result, Err(Failure::Write(e)) if e.kind() == ErrorKind::BrokenPipe));
+    }
+}

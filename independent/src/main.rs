@@ -1,0 +1,224 @@
+//! The commands of the second implementation.
+
+use std::env;
+use std::ffi::{OsStr, OsString};
+use std::fs::File;
+use std::io::{self, BufReader, BufWriter, ErrorKind, Read, StdoutLock, Write};
+use std::path::Path;
+use std::process::ExitCode;
+
+use independent::example::write_example;
+use independent::header::LONGEST_PAYLOAD;
+use independent::listing::{list, Failure};
+use independent::season::{write_season, Cut, Full, Options};
+use independent::vectors::{self, write_inputs, write_lines, KINDS};
+
+const USAGE: &str = "\
+usage: independent COMMAND ..
+
+  list [FILE ..]           the listing of standard input, or of each file in turn
+  season SEED N [OPTION ..]
+                           N records by chance; SEED and N are whole numbers
+      --payload L          all payloads have L bytes, 0 to 1023
+      --clean              only frames that are accepted, with light damage
+      --full               65536 short records: they fill a sheet, and the last one cuts
+      --full-exact         65535 short records
+      --cut KIND           then a rest that is no whole record; KIND is
+                             length   a record with a length over 1023
+                             lone     one byte of a length
+                             header   a record that ends in its header bytes
+                             payload  a record that ends in its payload
+  example                  the records of a small example pass
+  vectors KIND [SEED]      a line for each input of KIND
+  inputs KIND [SEED]       the inputs themselves, in binary
+  help                     this text
+
+KIND of vectors and inputs is one of
+ ";
+
+/// Bytes that are read or written at a time.
+const BUFFER: usize = 1 << 16;
+
+/// Why the program ends before its time.
+enum Stop {
+    /// The arguments are not understood.
+    Usage(String),
+    /// What could not be read or written.
+    Failed { what: String, error: io::Error },
+}
+
+type Output = BufWriter<StdoutLock<'static>>;
+
+fn main() -> ExitCode {
+    let arguments: Vec<OsString> = env::args_os().skip(1).collect();
+    let mut out = BufWriter::with_capacity(BUFFER, io::stdout().lock());
+    let done = run(&arguments, &mut out);
+    match done.and_then(|all_read| out.flush().map_err(failed_write).map(|()| all_read)) {
+        Ok(true) => ExitCode::SUCCESS,
+        Ok(false) => ExitCode::FAILURE,
+        // Whoever read the output has all that was wanted.
+        Err(Stop::Failed { error, .. }) if error.kind() == ErrorKind::BrokenPipe => {
+            ExitCode::SUCCESS
+        }
+        Err(Stop::Failed { what, error }) => {
+            tell(&format!("{what}: {error}"));
+            ExitCode::FAILURE
+        }
+        Err(Stop::Usage(problem)) => {
+            tell(&format!("{problem}\n\n{}", usage()));
+            ExitCode::from(2)
+        }
+    }
+}
+
+/// Tells on standard error; where that fails too, nobody is left to tell.
+fn tell(message: &str) {
+    let _ = writeln!(io::stderr(), "independent: {message}");
+}
+
+fn usage() -> String {
+    let kinds = KINDS.map(|(name, _)| format!(" {name}")).concat();
+    format!("{USAGE}{kinds}")
+}
+
+fn failed_write(error: io::Error) -> Stop {
+    Stop::Failed {
+        what: String::from("standard output"),
+        error,
+    }
+}
+
+/// Runs a command; false where some input could not be read, which was told already.
+fn run(arguments: &[OsString], out: &mut Output) -> Result<bool, Stop> {
+    let Some((command, rest)) = arguments.split_first() else {
+        return Err(Stop::Usage(String::from("no command")));
+    };
+    let written = match command.to_str() {
+        Some("list") => return list_all(rest, out),
+        Some("season") => write_season(&season_options(rest)?, out),
+        Some("example") => {
+            no_more(rest)?;
+            write_example(out)
+        }
+        Some("vectors") => {
+            let (kind, seed) = vector_arguments(rest)?;
+            write_lines(kind, seed, out)
+        }
+        Some("inputs") => {
+            let (kind, seed) = vector_arguments(rest)?;
+            write_inputs(kind, seed, out)
+        }
+        Some("help" | "--help" | "-h") => writeln!(out, "{}", usage()),
+        _ => return Err(Stop::Usage(format!("no command {}", quoted(command)))),
+    };
+    written.map(|()| true).map_err(failed_write)
+}
+
+/// Lists standard input, or each file; a file that cannot be read does not keep the next from being
+/// listed.
+fn list_all(files: &[OsString], out: &mut Output) -> Result<bool, Stop> {
+    if files.is_empty() {
+        return list_one(io::stdin().lock(), "standard input", out);
+    }
+    let mut all_read = true;
+    for file in files {
+        let name = Path::new(file).display().to_string();
+        all_read &= match File::open(file) {
+            Ok(input) => list_one(input, &name, out)?,
+            Err(error) => {
+                tell(&format!("{name}: {error}"));
+                false
+            }
+        };
+    }
+    Ok(all_read)
+}
+
+/// Lists one input; false where it could not be read to its end.
+fn list_one(input: impl Read, name: &str, out: &mut Output) -> Result<bool, Stop> {
+    let mut input = BufReader::with_capacity(BUFFER, input);
+    match list(&mut input, out) {
+        Ok(()) => Ok(true),
+        Err(Failure::Read(error)) => {
+            tell(&format!("{name}: {error}"));
+            Ok(false)
+        }
+        Err(Failure::Write(error)) => Err(failed_write(error)),
+    }
+}
+
+fn season_options(arguments: &[OsString]) -> Result<Options, Stop> {
+    let mut rest = arguments.iter();
+    let mut options = Options {
+        seed: number(rest.next(), "SEED", u64::MAX)?,
+        records: number(rest.next(), "N", u64::MAX)?,
+        payload: None,
+        clean: false,
+        cut: None,
+        full: None,
+    };
+    while let Some(option) = rest.next() {
+        match option.to_str() {
+            Some("--payload") => {
+                let length = number(rest.next(), "L", LONGEST_PAYLOAD as u64)?;
+                options.payload = Some(length as usize);
+            }
+            Some("--clean") => options.clean = true,
+            Some("--full") => options.full = Some(Full::OneMore),
+            Some("--full-exact") => options.full = Some(Full::Exact),
+            Some("--cut") => options.cut = Some(cut_kind(rest.next())?),
+            _ => return Err(Stop::Usage(format!("no option {}", quoted(option)))),
+        }
+    }
+    Ok(options)
+}
+
+fn cut_kind(argument: Option<&OsString>) -> Result<Cut, Stop> {
+    match argument.and_then(|kind| kind.to_str()) {
+        Some("length") => Ok(Cut::Length),
+        Some("lone") => Ok(Cut::Lone),
+        Some("header") => Ok(Cut::Header),
+        Some("payload") => Ok(Cut::Payload),
+        _ => Err(Stop::Usage(String::from(
+            "--cut wants length, lone, header or payload",
+        ))),
+    }
+}
+
+fn vector_arguments(arguments: &[OsString]) -> Result<(vectors::Kind, u64), Stop> {
+    let mut rest = arguments.iter();
+    let name = rest.next().map(OsString::as_os_str).unwrap_or_default();
+    let Some(kind) = name.to_str().and_then(vectors::Kind::named) else {
+        return Err(Stop::Usage(format!("no kind {}", quoted(name))));
+    };
+    let seed = match rest.next() {
+        None => vectors::DEFAULT_SEED,
+        seed => number(seed, "SEED", u64::MAX)?,
+    };
+    no_more(rest.as_slice())?;
+    Ok((kind, seed))
+}
+
+/// A whole number from 0 to `most`.
+fn number(argument: Option<&OsString>, name: &str, most: u64) -> Result<u64, Stop> {
+    let text = argument
+        .and_then(|argument| argument.to_str())
+        .unwrap_or_default();
+    match text.parse() {
+        Ok(value) if value <= most => Ok(value),
+        _ => Err(Stop::Usage(format!(
+            "{name} wants a whole number from 0 to {most}"
+        ))),
+    }
+}
+
+fn no_more(arguments: &[OsString]) -> Result<(), Stop> {
+    match arguments.first() {
+        None => Ok(()),
+        Some(argument) => Err(Stop::Usage(format!("{} is too much", quoted(argument)))),
+    }
+}
+
+fn quoted(argument: &OsStr) -> String {
+    format!("'{}'", argument.to_string_lossy())
+}

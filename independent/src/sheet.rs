@@ -1,0 +1,204 @@
+//! The pass sheet (refusal 17).
+
+use crate::frame::read_frame;
+use crate::header::{Field, Heard, LARGEST_SRC_ID};
+use crate::refusal::Refusal;
+
+/// "Eight records, one per SrcId."
+pub const SOURCES: usize = LARGEST_SRC_ID as usize + 1;
+
+/// "A count for each of the refusals 1 to 8."
+pub const COUNTED_REFUSALS: usize = 8;
+
+/// "After 65,535 offered frames the sheet is full."
+pub const FULL: usize = 65_535;
+
+/// Frame counters "wrap from 15 to 0".
+const COUNTER_VALUES: u8 = 16;
+
+/// What the sheet keeps of one source.
+#[derive(Clone, Copy, Debug, Default, PartialEq, Eq)]
+pub struct Source {
+    /// Frames accepted.
+    pub accepted: u32,
+    /// Bits repaired.
+    pub repaired: u32,
+    /// Frames missed.
+    pub missed: u32,
+    /// Repeats.
+    pub repeats: u32,
+    /// Last FrCntTx, if any frame was accepted.
+    pub last: Option<u8>,
+}
+
+impl Source {
+    /// Adds an accepted frame. "A count that would pass 4,294,967,295 stays there."
+    fn accept(&mut self, fr_cnt_tx: u8, flips: u32) {
+        self.accepted = self.accepted.saturating_add(1);
+        self.repaired = self.repaired.saturating_add(flips);
+        match self.last {
+            None => {}
+            Some(last) if last == fr_cnt_tx => self.repeats = self.repeats.saturating_add(1),
+            Some(last) => {
+                // "(new - last - 1) mod 16 is added to missed": 256 is a multiple of 16.
+                let missed = fr_cnt_tx.wrapping_sub(last).wrapping_sub(1) % COUNTER_VALUES;
+                self.missed = self.missed.saturating_add(u32::from(missed));
+            }
+        }
+        self.last = Some(fr_cnt_tx);
+    }
+}
+
+/// The pass sheet. "A new sheet is the only reset."
+#[derive(Clone, Debug, Default, PartialEq, Eq)]
+pub struct Sheet {
+    /// A record for each SrcId.
+    pub sources: [Source; SOURCES],
+    /// How often each refusal was given; number 1 stands first.
+    pub refused: [u32; COUNTED_REFUSALS],
+}
+
+impl Sheet {
+    /// A sheet that was offered nothing.
+    pub fn new() -> Sheet {
+        Sheet::default()
+    }
+
+    /// Frames accepted over all sources.
+    pub fn accepted_total(&self) -> u64 {
+        self.sources.iter().map(|s| u64::from(s.accepted)).sum()
+    }
+
+    /// Frames refused over all numbers.
+    pub fn refused_total(&self) -> u64 {
+        self.refused.iter().map(|&count| u64::from(count)).sum()
+    }
+
+    /// Frames offered: accepted and refused. The sum is exact for made-up sheets too.
+    pub fn offered(&self) -> u64 {
+        self.accepted_total() + self.refused_total()
+    }
+
+    /// "It is full when that sum is 65,535 or more."
+    pub fn is_full(&self) -> bool {
+        self.offered() >= FULL as u64
+    }
+
+    /// Offers a frame: what the reader says of it is counted, and answered.
+    pub fn offer(&mut self, air: &[u8], payload: &[u8]) -> Result<Heard, Refusal> {
+        // 17: "sheet full, checked before anything else, sheet unchanged", place 65,535
+        if self.is_full() {
+            return Err(Refusal::new(17, FULL));
+        }
+        let answer = read_frame(air, payload);
+        match &answer {
+            Ok(heard) => {
+                let source = &mut self.sources[usize::from(heard.header[Field::SrcId])];
+                // FrCntTx has four bits.
+                source.accept(heard.header[Field::FrCntTx] as u8, heard.flips);
+            }
+            Err(refusal) => {
+                let count = &mut self.refused[usize::from(refusal.number) - 1];
+                *count = count.saturating_add(1);
+            }
+        }
+        answer
+    }
+}
+
+#[cfg(test)]
+mod tests {
+    use super::*;
+
+    /// A source after frames with these counters and no flips.
+    fn after(counters: &[u8]) -> Source {
+        let mut source = Source::default();
+        for &counter in counters {
+            source.accept(counter, 0);
+        }
+        source
+    }
+
+    #[test]
+    fn marked_examples() {
+        assert_eq!(after(&[14, 1]).missed, 2);
+        assert_eq!(after(&[15, 0]).missed, 0);
+    }
+
+    #[test]
+    fn first_frame_misses_nothing() {
+        let first = Source {
+            accepted: 1,
+            last: Some(9),
+            ..Source::default()
+        };
+        assert_eq!(after(&[9]), first);
+    }
+
+    #[test]
+    fn a_repeat_is_no_miss() {
+        let source = after(&[9, 9, 9, 10]);
+        assert_eq!((source.accepted, source.repeats, source.missed), (4, 2, 0));
+    }
+
+    #[test]
+    fn every_pair_of_counters() {
+        for last in 0..16 {
+            for new in 0..16 {
+                let source = after(&[last, new]);
+                let steps = (0..16).find(|s| (last + s) % 16 == new).unwrap();
+                assert_eq!(source.repeats, u32::from(steps == 0));
+                assert_eq!(source.missed, u32::from(steps.max(1) - 1));
+                assert_eq!(source.last, Some(new));
+            }
+        }
+    }
+
+    #[test]
+    fn made_up_counts_stay_at_the_largest() {
+        let mut source = Source {
+            accepted: u32::MAX,
+            repaired: u32::MAX - 2,
+            missed: u32::MAX - 1,
+            repeats: u32::MAX,
+            last: Some(3),
+        };
+        source.accept(3, 1);
+        assert_eq!((source.accepted, source.repeats), (u32::MAX, u32::MAX));
+        assert_eq!(source.repaired, u32::MAX - 1);
+        source.accept(0, 42);
+        assert_eq!((source.repaired, source.missed), (u32::MAX, u32::MAX));
+    }
+
+    #[test]
+    fn made_up_last_counters_are_equal_as_they_stand() {
+        let step = |last, new| {
+            let mut source = Source {
+                last: Some(last),
+                ..Source::default()
+            };
+            source.accept(new, 0);
+            (source.repeats, source.missed)
+        };
+        assert_eq!(step(21, 5), (0, 15));
+        assert_eq!(step(16, 1), (0, 0));
+        assert_eq!(step(255, 15), (0, 15));
+        assert_eq!(step(255, 0), (0, 0));
+    }
+
+    #[test]
+    fn a_made_up_sheet_is_full_by_its_exact_sum() {
+        let mut sheet = Sheet::new();
+        sheet.sources[2].accepted = 65_000;
+        sheet.refused[7] = 534;
+        assert!(!sheet.is_full());
+        sheet.refused[0] = 1;
+        assert!(sheet.is_full());
+        sheet.sources.iter_mut().for_each(|s| s.accepted = u32::MAX);
+        sheet.refused = [u32::MAX; COUNTED_REFUSALS];
+        assert_eq!(sheet.offered(), 16 * u64::from(u32::MAX));
+        let before = sheet.clone();
+        assert_eq!(sheet.offer(&[], &[]), Err(Refusal::new(17, FULL)));
+        assert_eq!(sheet, before);
+    }
+}

@@ -1,0 +1,544 @@
+//! The inputs of each kind.
+
+use super::Kind;
+use crate::air::{AIR_BITS, WORDS};
+use crate::header::{largest, Field, Header, FIELDS, GIVEN, HEADER_BITS, LONGEST_PAYLOAD, WIDTHS};
+use crate::page::{EPS_ROWS, ROWS};
+use crate::rng::Rng;
+use crate::sample::{burst, flip_pattern, flip_some, seal, LONGEST_BURST};
+use crate::sheet::{COUNTED_REFUSALS, FULL, SOURCES};
+
+/// Room for a header slice in a record.
+pub(super) const HEADER_ROOM: usize = 256;
+
+/// Room for a payload of `crc13`.
+pub(super) const CRC13_ROOM: usize = 2_047;
+
+/// Room for a payload of `pages`.
+pub(super) const PAGE_ROOM: usize = 1_100;
+
+/// The inputs of a kind, in their order.
+pub(super) fn inputs(kind: Kind, seed: u64) -> Vec<Vec<u8>> {
+    let rng = &mut Rng::new(seed);
+    match kind {
+        Kind::Words => (0..=u16::MAX).map(|n| n.to_be_bytes().to_vec()).collect(),
+        Kind::Encode => (0..32).map(|data| vec![data]).collect(),
+        Kind::Crc13 => crc13_inputs(rng),
+        Kind::Crc5 => crc5_inputs(rng),
+        Kind::Headers => header_slices(rng)
+            .iter()
+            .map(|s| sized(s, HEADER_ROOM))
+            .collect(),
+        Kind::Writes => write_inputs(rng),
+        Kind::Frames => frame_inputs(rng),
+        Kind::Pages => pages(rng).iter().map(|p| sized(p, PAGE_ROOM)).collect(),
+        Kind::Rows => row_inputs(rng),
+        Kind::Shown => shown_inputs(rng),
+        Kind::Sheets => sheet_inputs(rng),
+    }
+}
+
+/// The length in two bytes, then the bytes, then zeros up to so many bytes.
+fn sized(bytes: &[u8], room: usize) -> Vec<u8> {
+    let mut record = (bytes.len() as u16).to_be_bytes().to_vec();
+    record.extend(bytes);
+    record.resize(2 + room, 0);
+    record
+}
+
+/// A payload that is told by its length, its first byte and the step to the next.
+#[derive(Clone, Copy)]
+pub(super) struct PayloadRule {
+    pub length: u16,
+    pub start: u8,
+    pub step: u8,
+}
+
+impl PayloadRule {
+    fn chance(rng: &mut Rng, length: usize) -> PayloadRule {
+        let [start, step] = (rng.below(65_536) as u16).to_be_bytes();
+        PayloadRule {
+            length: length as u16,
+            start,
+            step,
+        }
+    }
+
+    pub fn payload(&self) -> Vec<u8> {
+        (0..self.length)
+            .map(|k| self.start.wrapping_add(self.step.wrapping_mul(k as u8)))
+            .collect()
+    }
+
+    fn bytes(&self) -> [u8; 4] {
+        let [high, low] = self.length.to_be_bytes();
+        [high, low, self.start, self.step]
+    }
+}
+
+/// Lengths 0 to 64 and some up to 2,047 with bytes by chance; payloads of 00 and of FF; each one bit of
+/// 16 bytes.
+fn crc13_inputs(rng: &mut Rng) -> Vec<Vec<u8>> {
+    let mut payloads = Vec::new();
+    let longer = [
+        100, 127, 128, 255, 256, 500, 511, 512, 1_022, 1_023, 1_024, 2_047,
+    ];
+    for length in (0..=64).chain(longer) {
+        payloads.push(rng.bytes(length));
+    }
+    for length in [1, 2, 3, 62, 1_023] {
+        payloads.push(vec![0x00; length]);
+        payloads.push(vec![0xFF; length]);
+    }
+    for bit in 0..128 {
+        let mut payload = vec![0; 16];
+        payload[bit / 8] = 0x80 >> (bit % 8);
+        payloads.push(payload);
+    }
+    payloads.iter().map(|p| sized(p, CRC13_ROOM)).collect()
+}
+
+/// No bit, each one bit, all bits, all but one; then bits by chance.
+fn crc5_inputs(rng: &mut Rng) -> Vec<Vec<u8>> {
+    let mut inputs = Vec::new();
+    for base in [0, 1] {
+        let all = vec![base; 65];
+        inputs.push(all.clone());
+        for bit in 0..65 {
+            let mut one = all.clone();
+            one[bit] ^= 1;
+            inputs.push(one);
+        }
+    }
+    for _ in 0..1_000 {
+        inputs.push((0..65).map(|_| rng.below(2) as u8).collect());
+    }
+    inputs
+}
+
+/// A header in range with the payload's length and checksum, and a right CRC5.
+fn fresh_header(rng: &mut Rng, payload: &[u8]) -> Header {
+    let mut header = Header::default();
+    for field in 0..GIVEN {
+        header.values[field] = rng.within(0..=u32::from(largest(field))) as u16;
+    }
+    seal(&mut header, payload);
+    header
+}
+
+/// One to three flips in about every third word.
+fn light_damage(rng: &mut Rng, air: &mut [u8; AIR_BITS]) {
+    for word in 0..WORDS {
+        if rng.one_in(3) {
+            let count = rng.within(1..=3);
+            flip_some(rng, air, word, count);
+        }
+    }
+}
+
+/// Header slices for each answer of the reader, and for the order of its refusals.
+fn header_slices(rng: &mut Rng) -> Vec<Vec<u8>> {
+    let mut slices = Vec::new();
+    // 1: other lengths, with an element above 1 too
+    for length in [0, 1, 14, 209, 211, 212, 256] {
+        slices.push(vec![0; length]);
+        slices.push(vec![9; length]);
+    }
+    slices.push(vec![0; AIR_BITS]);
+    slices.push(vec![1; AIR_BITS]);
+    // 2: an element above 1, also before and after others and in words beyond repair
+    for index in [0, 1, 13, 14, 100, 208, 209] {
+        for value in [2, 3, 128, 255] {
+            let mut air = fresh_header(rng, &[]).to_air();
+            air[index] = value;
+            air[209] |= value;
+            slices.push(air.to_vec());
+            flip_pattern(&mut air, 0, 0x000F);
+            slices.push(air.to_vec());
+        }
+    }
+    // Each header bit alone, under a right CRC5.
+    for n in 0..HEADER_BITS {
+        let mut header = Header::from_bits(1 << (HEADER_BITS - 1 - n));
+        header[Field::Crc5] = header.crc5();
+        slices.push(header.to_air().to_vec());
+    }
+    // Clean, then within repair.
+    for _ in 0..100 {
+        slices.push(fresh_header(rng, &[]).to_air().to_vec());
+    }
+    for _ in 0..300 {
+        let mut air = fresh_header(rng, &[]).to_air();
+        light_damage(rng, &mut air);
+        slices.push(air.to_vec());
+    }
+    for _ in 0..60 {
+        let mut air = fresh_header(rng, &[]).to_air();
+        for word in 0..WORDS {
+            flip_some(rng, &mut air, word, 3);
+        }
+        slices.push(air.to_vec());
+    }
+    // Bursts of 42 and of 43 at each place.
+    for length in [LONGEST_BURST, LONGEST_BURST + 1] {
+        for start in 0..=AIR_BITS - length {
+            let mut air = fresh_header(rng, &[]).to_air();
+            burst(&mut air, start, length);
+            slices.push(air.to_vec());
+        }
+    }
+    // 3: words beyond repair; 0x000F is at distance 4 of word 0 and within 3 of none.
+    for word in 0..WORDS {
+        for other in word..WORDS {
+            let mut air = fresh_header(rng, &[]).to_air();
+            flip_pattern(&mut air, word, 0x000F);
+            if other > word {
+                flip_pattern(&mut air, other, 0x000F);
+            }
+            slices.push(air.to_vec());
+        }
+    }
+    // 4 to 6, alone and together
+    for change in 1..=31 {
+        let mut header = fresh_header(rng, &[]);
+        header[Field::Crc5] ^= change;
+        slices.push(header.to_air().to_vec());
+    }
+    for src_id in 8..=127 {
+        for ai_type_src in [rng.below(4) as u16, rng.within(4..=15) as u16] {
+            for wrong in [0, rng.within(1..=31) as u16] {
+                let mut header = fresh_header(rng, &[]);
+                header[Field::SrcId] = src_id;
+                header[Field::AiTypeSrc] = ai_type_src;
+                header[Field::Crc5] = header.crc5() ^ wrong;
+                slices.push(header.to_air().to_vec());
+            }
+        }
+    }
+    for ai_type_src in 4..=15 {
+        let mut header = fresh_header(rng, &[]);
+        header[Field::AiTypeSrc] = ai_type_src;
+        header[Field::Crc5] = header.crc5();
+        slices.push(header.to_air().to_vec());
+    }
+    for _ in 0..300 {
+        slices.push((0..AIR_BITS).map(|_| rng.below(2) as u8).collect());
+    }
+    slices
+}
+
+/// One input of `writes`.
+fn write_input(fields: &[u8; GIVEN], room: usize, rule: PayloadRule) -> Vec<u8> {
+    let mut record = fields.to_vec();
+    record.extend((room as u16).to_be_bytes());
+    record.extend(rule.bytes());
+    record
+}
+
+/// Headers in range; each field at and over its limits, alone and two by two; rooms and payloads at and
+/// over theirs, and several at once.
+fn write_inputs(rng: &mut Rng) -> Vec<Vec<u8>> {
+    fn in_range(rng: &mut Rng) -> [u8; GIVEN] {
+        let mut fields = [0; GIVEN];
+        for (field, value) in fields.iter_mut().enumerate() {
+            *value = rng.within(0..=u32::from(largest(field))) as u8;
+        }
+        fields
+    }
+    let mut inputs = Vec::new();
+    for _ in 0..300 {
+        let length = rng.below(LONGEST_PAYLOAD as u32 + 1) as usize;
+        let rule = PayloadRule::chance(rng, length);
+        let room = rng.within(210..=256) as usize;
+        inputs.push(write_input(&in_range(rng), room, rule));
+    }
+    for field in 0..GIVEN {
+        let most = largest(field) as u8;
+        let whole = (1u16 << WIDTHS[field]) - 1;
+        for value in [0, most, most + 1, whole as u8, whole as u8 + 1, 255] {
+            let mut fields = in_range(rng);
+            fields[field] = value;
+            inputs.push(write_input(&fields, 210, PayloadRule::chance(rng, 62)));
+        }
+        for other in field + 1..GIVEN {
+            let mut fields = in_range(rng);
+            fields[field] = most + 1;
+            fields[other] = 255;
+            inputs.push(write_input(&fields, 210, PayloadRule::chance(rng, 62)));
+        }
+    }
+    for room in [0, 1, 14, 209, 210, 211, 256] {
+        for length in [0, 1, 1_022, 1_023, 1_024, 1_025, 2_047] {
+            for over in [false, true] {
+                let mut fields = in_range(rng);
+                if over {
+                    fields[rng.below(GIVEN as u32) as usize] = 200;
+                }
+                inputs.push(write_input(&fields, room, PayloadRule::chance(rng, length)));
+            }
+        }
+    }
+    inputs
+}
+
+/// Frames that are accepted, or refused with 7 or 8; then every slice of `headers`.
+fn frame_inputs(rng: &mut Rng) -> Vec<Vec<u8>> {
+    let mut inputs = Vec::new();
+    let mut push = |slice: &[u8], rule: PayloadRule| {
+        let mut record = sized(slice, HEADER_ROOM);
+        record.extend(rule.bytes());
+        inputs.push(record);
+    };
+    for round in 0..200 {
+        let length = match round {
+            0..=9 => round,
+            10..=29 => LONGEST_PAYLOAD,
+            _ => rng.below(LONGEST_PAYLOAD as u32 + 1) as usize,
+        };
+        let rule = PayloadRule::chance(rng, length);
+        let header = fresh_header(rng, &rule.payload());
+        let mut air = header.to_air();
+        light_damage(rng, &mut air);
+        push(&air, rule);
+        // 7: one more, one less, other lengths, and lengths with the same ten low bits
+        let other = |length: usize| PayloadRule {
+            length: length as u16,
+            ..rule
+        };
+        push(&air, other(length + 1));
+        push(&air, other(length.saturating_sub(1)));
+        push(&air, other(rng.below(2_048) as usize));
+        push(&air, other(length + 1_024));
+        // 8: one bit of CRC13, also beside a wrong length
+        let mut wrong = header;
+        wrong[Field::Crc13] ^= 1 << (round % 13);
+        wrong[Field::Crc5] = wrong.crc5();
+        push(&wrong.to_air(), rule);
+        push(&wrong.to_air(), other(length + 2));
+    }
+    for slice in header_slices(rng) {
+        push(
+            &slice,
+            PayloadRule {
+                length: 5,
+                start: 1,
+                step: 1,
+            },
+        );
+    }
+    inputs
+}
+
+/// Payloads around each limit of the page reader, tagged and not, with FrameLength right and wrong.
+fn pages(rng: &mut Rng) -> Vec<Vec<u8>> {
+    let mut pages = Vec::new();
+    let lengths = (0..=70).chain(1_020..=1_060).chain([1_100]);
+    for length in lengths {
+        for tagged in [false, true] {
+            for off in [0, 1, 1_023] {
+                let mut payload = rng.bytes(length);
+                set_frame_length(&mut payload, tagged, off);
+                pages.push(payload);
+            }
+        }
+    }
+    for _ in 0..300 {
+        let length = rng.within(46..=1_031) as usize;
+        let mut payload = rng.bytes(length);
+        set_frame_length(&mut payload, rng.one_in(2), 0);
+        pages.push(payload);
+    }
+    for _ in 0..300 {
+        let length = rng.below(PAGE_ROOM as u32 + 1) as usize;
+        pages.push(rng.bytes(length));
+    }
+    pages
+}
+
+/// Sets TimeTagged and FrameLength, as far as the payload has their bytes; `off` is added modulo 1,024.
+fn set_frame_length(payload: &mut [u8], tagged: bool, off: usize) {
+    let head = if tagged { 12 } else { 8 };
+    let frame_length = (payload.len() + 2_048 - head + off) % 1_024;
+    if let Some(byte) = payload.get_mut(6) {
+        *byte = *byte & 0xF8 | (tagged as u8) << 2 | (frame_length >> 8) as u8;
+    }
+    if let Some(byte) = payload.get_mut(7) {
+        *byte = frame_length as u8;
+    }
+}
+
+/// Rows by chance and at their limits, into rooms of 0 to 40 and of 64 bytes.
+fn row_inputs(rng: &mut Rng) -> Vec<Vec<u8>> {
+    let mut inputs = Vec::new();
+    for room in (0..=40).chain([64]) {
+        let extremes: [[u16; ROWS]; 4] =
+            [[0; ROWS], [0x7FFF; ROWS], [0x8000; ROWS], [0xFFFF; ROWS]];
+        let by_chance = [(); 4].map(|()| [(); ROWS].map(|()| rng.below(65_536) as u16));
+        for rows in extremes.iter().chain(&by_chance) {
+            let mut record: Vec<u8> = rows.iter().flat_map(|row| row.to_be_bytes()).collect();
+            record.extend((room as u16).to_be_bytes());
+            inputs.push(record);
+        }
+    }
+    inputs
+}
+
+/// The 17 rows' scalings over many x; all pairs of telling coefficients; coefficients by chance.
+fn shown_inputs(rng: &mut Rng) -> Vec<Vec<u8>> {
+    let mut inputs = Vec::new();
+    let mut push = |c0: u64, c1: u64, spread: u16, x: u16| {
+        let mut record = c0.to_be_bytes().to_vec();
+        record.extend(c1.to_be_bytes());
+        record.extend(spread.to_be_bytes());
+        record.extend(x.to_be_bytes());
+        inputs.push(record);
+    };
+    let mut spreads: Vec<u16> = EPS_ROWS.iter().map(|row| row.spread as u16).collect();
+    spreads.sort_unstable();
+    spreads.dedup();
+    for &spread in &spreads {
+        for x in (0..=u16::MAX).step_by(13).chain([0x7FFF, 0x8000, 0xFFFF]) {
+            push(0.0f64.to_bits(), 1.0f64.to_bits(), spread, x);
+        }
+    }
+    // 16, and the spreads beside it
+    for spread in [0, 1, 32_766, 32_767, 32_768, 32_769, 65_535] {
+        for x in [0, 1, 0x7FFF, 0x8000, 0xFFFF] {
+            push(0.0f64.to_bits(), 1.0f64.to_bits(), spread, x);
+        }
+    }
+    let telling = [
+        0.0,
+        -0.0,
+        1.0,
+        -1.0,
+        0.1,
+        -1.0 / 3.0,
+        1e6,
+        9_007_199_254_740_993.0,
+        f64::MAX,
+        f64::MIN,
+        1e304,
+        f64::MIN_POSITIVE,
+        1e-310,
+        f64::from_bits(1),
+        f64::INFINITY,
+        f64::NEG_INFINITY,
+        f64::from_bits(0x7FF8_0000_0000_0000),
+    ];
+    for c0 in telling {
+        for c1 in telling {
+            for (spread, x) in [(1, 0), (3, 1), (3, 0xFFFF), (50, 0x7FFF), (32_767, 0x8000)] {
+                push(c0.to_bits(), c1.to_bits(), spread, x);
+            }
+        }
+    }
+    // Coefficients of everyday size, then any bits at all.
+    for _ in 0..10_000 {
+        let everyday = |rng: &mut Rng| (f64::from(rng.next_u64() as i32) / 1_000.0).to_bits();
+        let (c0, c1) = (everyday(rng), everyday(rng));
+        push(
+            c0,
+            c1,
+            rng.within(1..=32_767) as u16,
+            rng.below(65_536) as u16,
+        );
+    }
+    for _ in 0..10_000 {
+        let (c0, c1) = (rng.next_u64(), rng.next_u64());
+        push(c0, c1, rng.below(40_000) as u16, rng.below(65_536) as u16);
+    }
+    inputs
+}
+
+/// The counts and last counters of a made-up sheet.
+struct MadeUp {
+    /// accepted, repaired, missed, repeats
+    counts: [[u32; 4]; SOURCES],
+    last: [Option<u8>; SOURCES],
+    refused: [u32; COUNTED_REFUSALS],
+}
+
+impl MadeUp {
+    fn bytes(&self) -> Vec<u8> {
+        let mut bytes = Vec::new();
+        for (counts, last) in self.counts.iter().zip(self.last) {
+            bytes.extend(counts.iter().flat_map(|count| count.to_be_bytes()));
+            bytes.extend([last.is_some() as u8, last.unwrap_or(0)]);
+        }
+        bytes.extend(self.refused.iter().flat_map(|count| count.to_be_bytes()));
+        bytes
+    }
+
+    /// Sheets of five sorts: new, small, about to be full by so many, with counts at their limit, and
+    /// with sums past 32 bits.
+    fn chance(rng: &mut Rng) -> MadeUp {
+        let mut sheet = MadeUp {
+            counts: [[0; 4]; SOURCES],
+            last: [None; SOURCES],
+            refused: [0; COUNTED_REFUSALS],
+        };
+        let sort = rng.below(5);
+        if sort == 0 {
+            return sheet;
+        }
+        for source in 0..SOURCES {
+            sheet.counts[source] = [(); 4].map(|()| rng.below(1_000));
+            sheet.last[source] = match rng.below(8) {
+                0 => None,
+                1 => Some(rng.below(256) as u8),
+                _ => Some(rng.below(16) as u8),
+            };
+        }
+        sheet.refused.fill_with(|| rng.below(1_000));
+        match sort {
+            2 => {
+                let total = FULL as u32 + rng.below(4) - 2;
+                let rest: u32 = sheet.counts.iter().map(|c| c[0]).sum::<u32>()
+                    + sheet.refused[1..].iter().sum::<u32>();
+                sheet.refused[0] = total - rest;
+            }
+            3 => {
+                for counts in &mut sheet.counts {
+                    counts[1..].fill_with(|| u32::MAX - rng.below(20));
+                }
+            }
+            4 => {
+                sheet.counts[rng.below(8) as usize][0] = u32::MAX;
+                sheet.refused[rng.below(8) as usize] = u32::MAX;
+            }
+            _ => {}
+        }
+        sheet
+    }
+}
+
+/// Made-up sheets, each offered a frame that is accepted two times in three.
+fn sheet_inputs(rng: &mut Rng) -> Vec<Vec<u8>> {
+    let mut inputs = Vec::new();
+    for _ in 0..2_000 {
+        let mut record = MadeUp::chance(rng).bytes();
+        let length = rng.below(80) as usize;
+        let rule = PayloadRule::chance(rng, length);
+        let mut header = fresh_header(rng, &rule.payload());
+        // 4 to 8 by one field that is not as it should be; most fields may be anything
+        if rng.one_in(4) {
+            let field = rng.below(FIELDS as u32) as usize;
+            header.values[field] ^= rng.within(1..=(1 << WIDTHS[field]) - 1) as u16;
+            if field != Field::Crc5 as usize {
+                header[Field::Crc5] = header.crc5();
+            }
+        }
+        let mut air = header.to_air();
+        light_damage(rng, &mut air);
+        match rng.below(16) {
+            0 => flip_some(rng, &mut air, 5, 7),
+            1 => air[rng.below(AIR_BITS as u32) as usize] = 2,
+            _ => {}
+        }
+        record.extend(air);
+        record.extend(rule.bytes());
+        inputs.push(record);
+    }
+    inputs
+}

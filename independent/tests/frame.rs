@@ -1,0 +1,304 @@
+//! Headers and frames, written and read: each refusal, its order and place, and what damage does.
+
+use independent::air::{AIR_BITS, WORDS};
+use independent::crc::crc13;
+use independent::frame::read_frame;
+use independent::header::{
+    largest, read_header, write_header, Field, Header, Heard, GIVEN, WIDTHS,
+};
+use independent::refusal::Refusal;
+use independent::rng::Rng;
+use independent::sample::{burst, flip_pattern, flip_some, seal};
+
+/// Fields in range, by chance.
+fn given(rng: &mut Rng) -> [u16; GIVEN] {
+    let mut given = [0; GIVEN];
+    for (field, value) in given.iter_mut().enumerate() {
+        *value = rng.within(0..=u32::from(largest(field))) as u16;
+    }
+    given
+}
+
+/// The header that the writer makes of these fields and this payload.
+fn written(given: &[u16; GIVEN], payload: &[u8]) -> [u8; AIR_BITS] {
+    let mut air = [9; AIR_BITS];
+    write_header(given, payload, &mut air).unwrap();
+    air
+}
+
+/// The header with these changes under a right CRC5, on air.
+fn sealed(payload: &[u8], change: impl Fn(&mut Header)) -> [u8; AIR_BITS] {
+    let mut header = Header::default();
+    seal(&mut header, payload);
+    change(&mut header);
+    header[Field::Crc5] = header.crc5();
+    header.to_air()
+}
+
+fn refusal<T>(number: u8, place: usize) -> Result<T, Refusal> {
+    Err(Refusal { number, place })
+}
+
+#[test]
+fn what_is_written_is_read_back() {
+    let mut rng = Rng::new(1);
+    for length in (0..=1_023).step_by(11) {
+        let (given, payload) = (given(&mut rng), rng.bytes(length));
+        let air = written(&given, &payload);
+        let heard = read_frame(&air, &payload).unwrap();
+        assert_eq!(heard.flips, 0);
+        assert_eq!(heard.header.values[..GIVEN], given);
+        assert_eq!(usize::from(heard.header[Field::PduLength]), length);
+        assert_eq!(heard.header[Field::Crc13], crc13(&payload));
+        assert_eq!(heard.header[Field::Crc5], heard.header.crc5());
+        assert_eq!(read_header(&air), Ok(heard));
+    }
+}
+
+#[test]
+fn up_to_three_flips_a_word_are_undone_and_counted() {
+    let mut rng = Rng::new(2);
+    for _ in 0..500 {
+        let (given, payload) = (given(&mut rng), rng.bytes(20));
+        let clean = written(&given, &payload);
+        let mut air = clean;
+        let mut flips = 0;
+        for word in 0..WORDS {
+            let count = rng.below(4);
+            flip_some(&mut rng, &mut air, word, count);
+            flips += count;
+        }
+        let header = read_frame(&clean, &payload).unwrap().header;
+        assert_eq!(read_frame(&air, &payload), Ok(Heard { header, flips }));
+    }
+}
+
+#[test]
+fn three_flips_in_every_word_are_42() {
+    let mut rng = Rng::new(3);
+    for _ in 0..200 {
+        let mut air = written(&given(&mut rng), &[]);
+        for word in 0..WORDS {
+            flip_some(&mut rng, &mut air, word, 3);
+        }
+        assert_eq!(read_frame(&air, &[]).unwrap().flips, 42);
+    }
+}
+
+#[test]
+fn a_burst_of_42_neighbours_is_undone_wherever_it_stands() {
+    let mut rng = Rng::new(4);
+    let clean = written(&given(&mut rng), &[]);
+    let header = read_header(&clean).unwrap().header;
+    for length in 0..=42 {
+        for start in 0..=AIR_BITS - length {
+            let mut air = clean;
+            burst(&mut air, start, length);
+            let flips = length as u32;
+            assert_eq!(read_header(&air), Ok(Heard { header, flips }));
+        }
+    }
+}
+
+#[test]
+fn a_burst_of_43_neighbours_is_never_undone() {
+    let mut rng = Rng::new(5);
+    let clean = written(&given(&mut rng), &[]);
+    let header = read_header(&clean).unwrap().header;
+    for start in 0..=AIR_BITS - 43 {
+        let mut air = clean;
+        burst(&mut air, start, 43);
+        assert_ne!(read_header(&air).map(|heard| heard.header), Ok(header));
+    }
+    // The first of them gives word 0 the pattern 0x000F, which is beyond repair.
+    let mut air = clean;
+    burst(&mut air, 0, 43);
+    assert_eq!(read_header(&air), refusal(3, 0));
+}
+
+#[test]
+fn refusal_1_is_another_length() {
+    for length in (0..AIR_BITS).chain(AIR_BITS + 1..300) {
+        assert_eq!(read_header(&vec![0; length]), refusal(1, length));
+        assert_eq!(read_frame(&vec![7; length], &[1]), refusal(1, length));
+    }
+}
+
+#[test]
+fn refusal_2_is_the_lowest_element_above_1() {
+    for index in 0..AIR_BITS {
+        for value in [2, 3, 128, 255] {
+            let mut air = [1; AIR_BITS];
+            air[index] = value;
+            air[AIR_BITS - 1] = value;
+            assert_eq!(read_header(&air), refusal(2, index));
+        }
+    }
+    // before 3
+    let mut air = [0; AIR_BITS];
+    flip_pattern(&mut air, 0, 0x000F);
+    assert_eq!(read_header(&air), refusal(3, 0));
+    air[AIR_BITS - 1] = 2;
+    assert_eq!(read_header(&air), refusal(2, AIR_BITS - 1));
+}
+
+#[test]
+fn refusal_3_is_the_lowest_word_beyond_repair() {
+    for word in 0..WORDS {
+        let mut air = sealed(&[], |_| {});
+        flip_pattern(&mut air, word, 0x000F);
+        assert_eq!(read_header(&air), refusal(3, word));
+        flip_pattern(&mut air, WORDS - 1, if word < 13 { 0x000F } else { 0 });
+        assert_eq!(read_header(&air), refusal(3, word));
+    }
+}
+
+#[test]
+fn refusal_4_gives_the_crc5_worked_out() {
+    assert_eq!(read_header(&[0; AIR_BITS]), refusal(4, 6));
+    for wrong in 1..32 {
+        let mut header = Header::default();
+        header[Field::SrcId] = 100;
+        header[Field::AiTypeSrc] = 9;
+        let right = header.crc5();
+        header[Field::Crc5] = right ^ wrong;
+        assert_eq!(read_header(&header.to_air()), refusal(4, right.into()));
+    }
+}
+
+#[test]
+fn crc5_is_judged_after_repair() {
+    let mut air = [0; AIR_BITS];
+    for word in 0..WORDS {
+        flip_pattern(&mut air, word, 0x7000);
+    }
+    assert_eq!(read_header(&air), refusal(4, 6));
+}
+
+#[test]
+fn refusals_5_and_6_are_the_values_out_of_range() {
+    for src_id in 0..128 {
+        for ai_type_src in 0..16 {
+            let air = sealed(&[], |header| {
+                header[Field::SrcId] = src_id;
+                header[Field::AiTypeSrc] = ai_type_src;
+            });
+            let number = match read_header(&air) {
+                Ok(heard) => {
+                    assert_eq!(heard.header[Field::SrcId], src_id);
+                    0
+                }
+                Err(refusal) => {
+                    let value = if refusal.number == 5 {
+                        src_id
+                    } else {
+                        ai_type_src
+                    };
+                    assert_eq!(refusal.place, usize::from(value));
+                    refusal.number
+                }
+            };
+            let expected = if src_id > 7 {
+                5
+            } else if ai_type_src > 3 {
+                6
+            } else {
+                0
+            };
+            assert_eq!(number, expected);
+        }
+    }
+}
+
+#[test]
+fn other_fields_are_carried_without_limits() {
+    let air = sealed(&[], |header| {
+        for (value, width) in header.values[..GIVEN].iter_mut().zip(WIDTHS) {
+            *value = (1 << width) - 1;
+        }
+        header[Field::SrcId] = 7;
+        header[Field::AiTypeSrc] = 3;
+    });
+    let heard = read_header(&air).unwrap();
+    assert_eq!(heard.header[Field::AiTypeDst], 15);
+    assert_eq!(heard.header[Field::DstId], 127);
+}
+
+#[test]
+fn refusal_7_gives_pdu_length() {
+    let payload = [5; 2_100];
+    for pdu_length in [0, 1, 62, 1_023] {
+        // CRC13 is wrong too, and comes later.
+        let air = sealed(&[], |header| {
+            header[Field::PduLength] = pdu_length;
+            header[Field::Crc13] ^= 1;
+        });
+        for length in 0..2_100 {
+            if length != usize::from(pdu_length) {
+                let answer = read_frame(&air, &payload[..length]);
+                assert_eq!(answer, refusal(7, pdu_length.into()));
+            }
+        }
+    }
+}
+
+#[test]
+fn refusal_7_comes_after_6() {
+    let air = sealed(&[], |header| header[Field::AiTypeSrc] = 4);
+    assert_eq!(read_frame(&air, &[1]), refusal(6, 4));
+}
+
+#[test]
+fn refusal_8_gives_the_crc13_worked_out() {
+    let mut rng = Rng::new(8);
+    for length in [0, 1, 2, 62, 1_023] {
+        let payload = rng.bytes(length);
+        let right = crc13(&payload);
+        for bit in 0..13 {
+            let air = sealed(&payload, |header| header[Field::Crc13] ^= 1 << bit);
+            assert_eq!(read_frame(&air, &payload), refusal(8, right.into()));
+        }
+    }
+}
+
+#[test]
+fn writer_refuses_in_order_and_leaves_the_output_as_it_was() {
+    let mut good = [0; GIVEN];
+    good[Field::SrcId as usize] = 7;
+    let mut bad = good;
+    bad[Field::SrcId as usize] = 8;
+    let (short, long) = ([0; 1_023], [0; 1_024]);
+    let answer = |given: &[u16; GIVEN], payload: &[u8], room: usize| {
+        let mut out = vec![7; room];
+        let answer = write_header(given, payload, &mut out);
+        let untouched = if answer.is_ok() { AIR_BITS } else { 0 };
+        assert!(out[untouched..].iter().all(|&byte| byte == 7));
+        answer
+    };
+    for room in 0..AIR_BITS {
+        assert_eq!(answer(&bad, &long, room), refusal(13, room));
+    }
+    assert_eq!(answer(&bad, &long, 210), refusal(14, 0));
+    assert_eq!(answer(&good, &long, 210), refusal(15, 1_024));
+    for room in AIR_BITS..230 {
+        assert_eq!(answer(&good, &short, room), Ok(()));
+    }
+}
+
+#[test]
+fn refusal_14_is_the_lowest_field_out_of_range() {
+    let limits = [7, 127, 15, 15, 15, 3, 15, 3, 1, 1, 1, 1, 1, 1];
+    for field in 0..GIVEN {
+        let mut given = [0; GIVEN];
+        let mut out = [0; AIR_BITS];
+        given[field] = limits[field];
+        assert_eq!(write_header(&given, &[], &mut out), Ok(()));
+        for over in [limits[field] + 1, u16::MAX] {
+            given[field] = over;
+            assert_eq!(write_header(&given, &[], &mut out), refusal(14, field));
+            given[GIVEN - 1] = 2;
+            assert_eq!(write_header(&given, &[], &mut out), refusal(14, field));
+            given[GIVEN - 1] = 0;
+        }
+    }
+}

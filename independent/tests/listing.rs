@@ -1,0 +1,300 @@
+//! Listings: the paper's own, cuts of every kind, the example pass, and seasons.
+
+use std::collections::BTreeSet;
+
+use independent::air::AIR_BITS;
+use independent::example::{example, write_example};
+use independent::frame::read_frame;
+use independent::header::{Field, Header};
+use independent::listing::list;
+use independent::rng::Rng;
+use independent::sample::{flip_pattern, seal, Record};
+use independent::season::{write_season, Cut, Full, Options};
+use independent::sheet::Sheet;
+
+fn listed(mut input: &[u8]) -> String {
+    let mut output = Vec::new();
+    list(&mut input, &mut output).unwrap();
+    String::from_utf8(output).unwrap()
+}
+
+fn bytes_of(records: &[Record]) -> Vec<u8> {
+    let mut bytes = Vec::new();
+    for record in records {
+        record.write_to(&mut bytes).unwrap();
+    }
+    bytes
+}
+
+fn record(src_id: u16, fr_cnt_tx: u16, payload: Vec<u8>) -> Record {
+    let mut header = Header::default();
+    header[Field::SrcId] = src_id;
+    header[Field::FrCntTx] = fr_cnt_tx;
+    seal(&mut header, &payload);
+    Record::new(&header, payload)
+}
+
+#[test]
+fn empty_input() {
+    assert_eq!(listed(&[]), "pass sheet\nheard 0 accepted 0 refused 0\n");
+}
+
+#[test]
+fn the_papers_listing() {
+    let expected = "pass sheet\n0 refused 4 6\nheard 1 accepted 0 refused 1\n";
+    assert_eq!(listed(&[0; 2 + AIR_BITS]), expected);
+}
+
+#[test]
+fn the_papers_accepted_line() {
+    let mut accepted = record(3, 5, vec![1; 42]);
+    flip_pattern(&mut accepted.header, 0, 0x7000);
+    flip_pattern(&mut accepted.header, 7, 0x0007);
+    flip_pattern(&mut accepted.header, 13, 0x0200);
+    let zeros = [0; 3 * (2 + AIR_BITS)];
+    let bytes = [&zeros[..], &bytes_of(&[accepted])].concat();
+    let lines = listed(&bytes);
+    assert!(lines.contains("\n3 accepted B radio 2 tx 5 repaired 7 bytes 42\n"));
+    assert!(lines.ends_with("\nheard 4 accepted 1 refused 3\n"));
+}
+
+#[test]
+fn satellites_and_radios() {
+    let records: Vec<Record> = (0..8).map(|src_id| record(src_id, 15, vec![])).collect();
+    let mut expected = String::from("pass sheet\n");
+    for (number, name) in ["A", "A", "B", "B", "C", "C", "D", "D"].iter().enumerate() {
+        let radio = number % 2 + 1;
+        expected += &format!("{number} accepted {name} radio {radio} tx 15 repaired 0 bytes 0\n");
+    }
+    expected += "heard 8 accepted 8 refused 0\n";
+    assert_eq!(listed(&bytes_of(&records)), expected);
+}
+
+#[test]
+fn every_place_where_the_input_can_end() {
+    let first = bytes_of(&[record(0, 1, vec![9; 5])]);
+    let whole = bytes_of(&[record(0, 1, vec![9; 5]), record(0, 2, vec![9; 3])]);
+    let one = "pass sheet\n0 accepted A radio 1 tx 1 repaired 0 bytes 5\n";
+    for end in 0..=whole.len() {
+        let expected = if end == 0 {
+            String::from("pass sheet\nheard 0 accepted 0 refused 0\n")
+        } else if end < first.len() {
+            String::from("pass sheet\ncut\nheard 0 accepted 0 refused 0\n")
+        } else if end == first.len() {
+            format!("{one}heard 1 accepted 1 refused 0\n")
+        } else if end < whole.len() {
+            format!("{one}cut\nheard 1 accepted 1 refused 0\n")
+        } else {
+            format!(
+                "{one}1 accepted A radio 1 tx 2 repaired 0 bytes 3\nheard 2 accepted 2 refused 0\n"
+            )
+        };
+        assert_eq!(listed(&whole[..end]), expected, "ends after {end}");
+    }
+}
+
+#[test]
+fn a_length_over_1023_cuts_even_where_the_bytes_are_there() {
+    let longest = record(0, 1, vec![0; 1_023]);
+    let over = Record {
+        payload: vec![0; 1_024],
+        ..longest.clone()
+    };
+    let bytes = bytes_of(&[longest.clone(), over, longest]);
+    let expected = "pass sheet\n0 accepted A radio 1 tx 1 repaired 0 bytes 1023\ncut\n\
+                    heard 1 accepted 1 refused 0\n";
+    assert_eq!(listed(&bytes), expected);
+    let cut = "pass sheet\ncut\nheard 0 accepted 0 refused 0\n";
+    assert_eq!(listed(&[0xFF; 4]), cut);
+    assert_eq!(listed(&[0x04, 0x00]), cut);
+}
+
+#[test]
+fn a_full_sheet_cuts_at_one_byte_more() {
+    // Records that are refused at their first element.
+    let mut bytes = [&[0, 0, 2][..], &[0; AIR_BITS - 1]].concat().repeat(65_535);
+    let full = listed(&bytes);
+    let last = "\n65534 refused 2 0\nheard 65535 accepted 0 refused 65535\n";
+    assert!(full.ends_with(last));
+    assert!(!full.contains("cut"));
+    let cut = full.replace("heard", "cut\nheard");
+    bytes.push(0);
+    assert_eq!(listed(&bytes), cut);
+    bytes.resize(bytes.len() + 5 * (2 + AIR_BITS), 0);
+    assert_eq!(listed(&bytes), cut);
+}
+
+#[test]
+fn any_bytes_are_listed() {
+    let mut rng = Rng::new(11);
+    for length in (0..3_000).step_by(7) {
+        let mut bytes = rng.bytes(length);
+        // Small lengths, so that more than the first record is reached.
+        if let Some(high) = bytes.first_mut() {
+            *high = 0;
+        }
+        let lines = listed(&bytes);
+        assert!(lines.starts_with("pass sheet\n") && lines.ends_with('\n'));
+    }
+}
+
+#[test]
+fn the_example_pass() {
+    let mut bytes = Vec::new();
+    write_example(&mut bytes).unwrap();
+    let expected = "\
+pass sheet
+0 accepted A radio 1 tx 14 repaired 0 bytes 62
+1 accepted A radio 1 tx 15 repaired 0 bytes 62
+2 accepted D radio 2 tx 0 repaired 0 bytes 69
+3 accepted B radio 2 tx 5 repaired 7 bytes 42
+4 accepted A radio 1 tx 0 repaired 0 bytes 62
+5 accepted C radio 1 tx 8 repaired 42 bytes 62
+6 accepted C radio 1 tx 8 repaired 0 bytes 62
+7 refused 3 4
+8 refused 2 77
+9 accepted A radio 1 tx 3 repaired 0 bytes 62
+10 refused 4 8
+11 refused 5 97
+12 refused 6 9
+13 refused 7 69
+14 refused 8 6021
+15 accepted C radio 2 tx 0 repaired 0 bytes 0
+heard 16 accepted 9 refused 7
+";
+    assert_eq!(listed(&bytes), expected);
+    let mut sheet = Sheet::new();
+    for record in example() {
+        let _ = sheet.offer(&record.header, &record.payload);
+    }
+    assert_eq!((sheet.sources[0].missed, sheet.sources[4].repeats), (2, 1));
+}
+
+fn options(seed: u64, records: u64) -> Options {
+    Options {
+        seed,
+        records,
+        payload: None,
+        clean: false,
+        cut: None,
+        full: None,
+    }
+}
+
+fn season(options: &Options) -> Vec<u8> {
+    let mut bytes = Vec::new();
+    write_season(options, &mut bytes).unwrap();
+    bytes
+}
+
+/// The records of a season that is not cut.
+fn records_of(mut bytes: &[u8]) -> Vec<Record> {
+    let mut records = Vec::new();
+    while let Some((length, rest)) = bytes.split_first_chunk() {
+        let (header, rest) = rest.split_first_chunk().unwrap();
+        let (payload, rest) = rest.split_at(u16::from_be_bytes(*length).into());
+        records.push(Record {
+            header: *header,
+            payload: payload.to_vec(),
+        });
+        bytes = rest;
+    }
+    records
+}
+
+#[test]
+fn a_season_has_everything() {
+    let records = records_of(&season(&options(1, 3_000)));
+    assert_eq!(records.len(), 3_000);
+    let mut sheet = Sheet::new();
+    let (mut flips, mut lengths) = (BTreeSet::new(), BTreeSet::new());
+    for record in &records {
+        if let Ok(heard) = sheet.offer(&record.header, &record.payload) {
+            flips.insert(heard.flips);
+            lengths.insert(record.payload.len());
+        }
+    }
+    assert_eq!(sheet.refused[0], 0);
+    assert!(sheet.refused[1..].iter().all(|&count| count > 20));
+    for source in sheet.sources {
+        assert!(source.accepted > 100 && source.missed > 0 && source.repeats > 0);
+    }
+    assert!(flips.contains(&0) && flips.contains(&42) && flips.len() > 30);
+    assert!(lengths.contains(&0) && lengths.contains(&1_023) && lengths.len() > 50);
+}
+
+#[test]
+fn a_clean_season_is_accepted() {
+    let clean = Options {
+        clean: true,
+        payload: Some(62),
+        ..options(2, 500)
+    };
+    let records = records_of(&season(&clean));
+    let mut flips = 0;
+    for record in &records {
+        assert_eq!(record.payload.len(), 62);
+        flips += read_frame(&record.header, &record.payload).unwrap().flips;
+    }
+    assert_eq!(records.len(), 500);
+    assert!(flips > 500);
+}
+
+#[test]
+fn a_season_of_one_payload_length_is_refused_in_every_way_too() {
+    for length in [0, 1_023] {
+        let fixed = Options {
+            payload: Some(length),
+            ..options(3, 1_000)
+        };
+        let mut sheet = Sheet::new();
+        for record in records_of(&season(&fixed)) {
+            assert_eq!(record.payload.len(), length);
+            let _ = sheet.offer(&record.header, &record.payload);
+        }
+        assert!(sheet.refused[1..].iter().all(|&count| count > 5));
+    }
+}
+
+#[test]
+fn cut_seasons_are_cut_after_their_records() {
+    for cut in [Cut::Length, Cut::Lone, Cut::Header, Cut::Payload] {
+        for seed in 0..20 {
+            let whole = options(seed, 10);
+            let cut = Options {
+                cut: Some(cut),
+                ..whole.clone()
+            };
+            assert!(season(&cut).starts_with(&season(&whole)));
+            let lines = listed(&season(&whole)).replace("heard", "cut\nheard");
+            assert_eq!(listed(&season(&cut)), lines);
+        }
+    }
+}
+
+#[test]
+fn full_seasons_have_65535_records_and_one_more() {
+    let count = |full| {
+        let full = Options {
+            full: Some(full),
+            ..options(4, 7)
+        };
+        records_of(&season(&full)).len()
+    };
+    assert_eq!(count(Full::Exact), 65_535);
+    assert_eq!(count(Full::OneMore), 65_536);
+}
+
+/// FNV-1a of 64 bits.
+fn hash(bytes: &[u8]) -> u64 {
+    bytes.iter().fold(0xCBF2_9CE4_8422_2325, |hash, &byte| {
+        (hash ^ u64::from(byte)).wrapping_mul(0x0100_0000_01B3)
+    })
+}
+
+#[test]
+fn a_season_is_the_same_on_every_machine() {
+    let pinned = 14_212_148_758_513_269_354;
+    assert_eq!(hash(&season(&options(1, 1_000))), pinned);
+    assert_ne!(season(&options(1, 10)), season(&options(2, 10)));
+}

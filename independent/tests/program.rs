@@ -1,0 +1,132 @@
+//! The program as it is called.
+
+use std::io::Write;
+use std::process::{Command, Output, Stdio};
+
+/// Runs the program with these arguments and this standard input.
+fn run(arguments: &[&str], input: &[u8]) -> Output {
+    let mut child = Command::new(env!("CARGO_BIN_EXE_independent"))
+        .args(arguments)
+        .stdin(Stdio::piped())
+        .stdout(Stdio::piped())
+        .stderr(Stdio::piped())
+        .spawn()
+        .unwrap();
+    // The program may end before it has read everything.
+    let _ = child.stdin.take().unwrap().write_all(input);
+    child.wait_with_output().unwrap()
+}
+
+#[test]
+fn standard_input_is_listed() {
+    let output = run(&["list"], &[0; 212]);
+    let expected = "pass sheet\n0 refused 4 6\nheard 1 accepted 0 refused 1\n";
+    assert_eq!(String::from_utf8(output.stdout).unwrap(), expected);
+    assert!(output.stderr.is_empty());
+    assert!(output.status.success());
+}
+
+#[test]
+fn a_cut_is_no_failure() {
+    let output = run(&["list"], &[0]);
+    assert_eq!(
+        output.stdout,
+        b"pass sheet\ncut\nheard 0 accepted 0 refused 0\n"
+    );
+    assert!(output.stderr.is_empty());
+    assert!(output.status.success());
+}
+
+#[test]
+fn files_are_listed_in_turn_and_a_missing_one_is_told() {
+    let file = std::env::temp_dir().join(format!("independent-{}.pass", std::process::id()));
+    std::fs::write(&file, [0; 212]).unwrap();
+    let name = file.to_str().unwrap();
+    let output = run(&["list", name, "no such file", name], &[]);
+    std::fs::remove_file(&file).unwrap();
+    let once = "pass sheet\n0 refused 4 6\nheard 1 accepted 0 refused 1\n";
+    assert_eq!(String::from_utf8(output.stdout).unwrap(), once.repeat(2));
+    assert!(String::from_utf8(output.stderr)
+        .unwrap()
+        .contains("no such file"));
+    assert_eq!(output.status.code(), Some(1));
+}
+
+#[test]
+fn seasons_are_made_by_their_arguments() {
+    let output = run(
+        &[
+            "season",
+            "5",
+            "20",
+            "--payload",
+            "3",
+            "--clean",
+            "--cut",
+            "lone",
+        ],
+        &[],
+    );
+    assert_eq!(output.stdout.len(), 20 * 215 + 1);
+    assert!(output.status.success());
+    let listing = run(&["list"], &output.stdout);
+    assert!(listing
+        .stdout
+        .ends_with(b"\ncut\nheard 20 accepted 20 refused 0\n"));
+}
+
+#[test]
+fn vectors_example_and_help_are_printed() {
+    assert_eq!(
+        run(&["vectors", "encode"], &[])
+            .stdout
+            .iter()
+            .filter(|&&b| b == b'\n')
+            .count(),
+        32
+    );
+    assert_eq!(run(&["inputs", "words", "7"], &[]).stdout.len(), 131_072);
+    assert!(!run(&["example"], &[]).stdout.is_empty());
+    assert!(run(&["help"], &[]).stdout.starts_with(b"usage: "));
+}
+
+#[test]
+fn bad_arguments_are_told_with_status_2() {
+    let bad: [&[&str]; 13] = [
+        &[],
+        &["lists"],
+        &["season"],
+        &["season", "1"],
+        &["season", "1", "x"],
+        &["season", "-1", "5"],
+        &["season", "1", "5", "--payload", "1024"],
+        &["season", "1", "5", "--cut", "paper"],
+        &["season", "1", "5", "--loud"],
+        &["vectors"],
+        &["vectors", "nothing"],
+        &["inputs", "words", "1", "2"],
+        &["example", "2"],
+    ];
+    for arguments in bad {
+        let output = run(arguments, &[]);
+        assert_eq!(output.status.code(), Some(2), "{arguments:?}");
+        assert!(output.stdout.is_empty());
+        assert!(String::from_utf8(output.stderr)
+            .unwrap()
+            .contains("usage: "));
+    }
+}
+
+#[test]
+fn a_reader_that_goes_away_is_no_failure() {
+    let mut child = Command::new(env!("CARGO_BIN_EXE_independent"))
+        .args(["season", "1", "100000"])
+        .stdout(Stdio::piped())
+        .stderr(Stdio::piped())
+        .spawn()
+        .unwrap();
+    drop(child.stdout.take());
+    let output = child.wait_with_output().unwrap();
+    assert!(output.stderr.is_empty());
+    assert!(output.status.success());
+}
