@@ -7,6 +7,7 @@ pub mod Fold
 pub mod Lowest
 pub mod Xor
 pub mod Ones
+pub mod Bits
 pub mod Sums
 pub mod Doubles
 pub mod Joined

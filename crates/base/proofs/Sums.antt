@@ -6,7 +6,8 @@ use Prim.Native.Nat.{ℕ, zero, suc, _+_, _-_, _*_, _/_, _%_, _^_, _<_, _≤_, z
 use native.Mathlib.Nat.{add-comm, pow-suc, mod-eq-of-lt, mod-one, eq-or-lt-of-le, le-of-suc-le-suc, le-refl, le-step, mul-le-mul-right, one-mul, mul-suc}
 use native.Mathlib.Numerals.{one-add, add-one}
 use native.Mathlib.Omega.{arith}
-use lib.Pow.{mod-pow-add, mod-mod-pow, field, high, low}
+use lib.Pow.{mod-pow-add, high}
+use Rattle.base.proofs.Bits.{bit-below}
 use Rattle.base.specs.Lists.{sumTo}
 
 pub sum-none : (f : ℕ → ℕ) → sumTo 0 f ≡ 0
@@ -57,11 +58,10 @@ module _ (b : ℕ → ℕ) (bit : (i : ℕ) → b i < 2) where
   made-at (suc n) k h =
       ⊎-elim
       (λ (e : k ≡ n). rw (e, add-comm, high (b n) n (made-lt n)) (mod-eq-of-lt (bit n)))
-      (λ (lt : k < n). below (n - (1 + k)) k n (sumTo n (λ i. b i * 2 ^ i)) (b n) (omega arith) (made-lt n) ∙ made-at n k lt)
+      (λ (lt : k < n). rw add-comm (bit-below (b n) n (sumTo n (λ i. b i * 2 ^ i)) (made-lt n) k lt) ∙ made-at n k lt)
       (eq-or-lt-of-le (le-of-suc-le-suc h))
-    where
-      below : (j k n s x : ℕ) → j + (1 + k) ≡ n → s < 2 ^ n → (s + x * 2 ^ n) / 2 ^ k % 2 ≡ s / 2 ^ k % 2
-      below j k n s x e lt =
-          let same : (s + x * 2 ^ n) % 2 ^ (1 + k) ≡ s % 2 ^ (1 + k) =
-          sym (mod-mod-pow (s + x * 2 ^ n) j (1 + k)) ∙ ap (λ (y : ℕ). y % 2 ^ (1 + k)) (rw (e, add-comm) (low x n lt)) in
-          sym (field (s + x * 2 ^ n) 1 k) ∙ ap (λ (y : ℕ). y / 2 ^ k) same ∙ field s 1 k
+
+-- numbers of w bits with the same bits are the same
+pub same-bits : (w x y : ℕ) → ((q : ℕ) → q < w → x / 2 ^ q % 2 ≡ y / 2 ^ q % 2) → x % 2 ^ w ≡ y % 2 ^ w
+same-bits w x y same =
+    sym (sum-bits w x) ∙ sum-same w _ _ (λ q h. ap (λ (b : ℕ). b * 2 ^ q) (same q h)) ∙ sum-bits w y

@@ -10,7 +10,7 @@ use lib.Pow.{pow-pos, shr-shr}
 use Rattle.base.proofs.Xor.{high-none}
 use Rattle.crc.specs.Crc.{bitsOf}
 use Rattle.crc.specs.Crc5.{headerBit, filling, countedFlown}
-use Rattle.crc.proofs.Bits.{bit-of-low, bit-below, shift-above}
+use Rattle.base.proofs.Bits.{bit-of-low, bit-below, shift-above}
 use Rattle.crc.proofs.Nine.{bitIn, byte-bit, message-header, message-filling}
 
 module _ (n k : ℕ) where

@@ -1,9 +1,7 @@
 pub mod Loop
 pub mod Width
 pub mod Linear
-pub mod Bits
 pub mod Nine
 pub mod TwoNumbers
 pub mod Flown
 pub mod Unseen
-pub mod Marked

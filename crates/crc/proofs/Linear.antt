@@ -5,31 +5,24 @@ use mathlib.Core.Path.{_≡_, refl, sym, ap, ap₂, _∙_}
 use mathlib.Core.Bool.{cond}
 use mathlib.Core.List.{List, [], _∷_, zipWith}
 use Prim.Native.Nat.{ℕ, zero, suc, _+_, _-_, _*_, _/_, _%_, _^_, _<_}
-use native.Mathlib.Nat.{zero-mul, one-mul, add-zero, lt-of-lt-of-le}
+use native.Mathlib.Nat.{zero-mul, one-mul, add-zero, mod-eq-of-lt, lt-of-lt-of-le}
 use native.Mathlib.Omega.{arith}
-use lib.Bits.{bitXor, xor-self, xor-zero-r, xor-shr, xor-mod, xor-lt, xor-block}
+use lib.Bits.{bitXor, xor-zero-r, xor-shr, xor-mod, xor-lt, xor-block}
 use lib.Dec.{eqb, lit<}
 use lib.ListN.{length}
 use lib.Pow.{pow-mono, shr-lt}
 use Rattle.base.specs.Lists.{AreBits}
-use Rattle.base.proofs.Xor.{xor-assoc, xor-swap}
+use Rattle.base.proofs.Xor.{xor-four, xor-bit-times}
 use Rattle.crc.specs.Crc.{crcStep, crcOf}
 use Rattle.crc.proofs.Width.{step-lt}
-
--- a sum of sums, taken in another order
-interchange : (a b c d : ℕ) → bitXor (bitXor a b) (bitXor c d) ≡ bitXor (bitXor a c) (bitXor b d)
-interchange a b c d = sym (xor-assoc (bitXor a b) c d) ∙ ap (λ (x : ℕ). bitXor x d) (xor-swap a b c) ∙ xor-assoc (bitXor a c) b d
 
 -- doubling, multiplying by a bit: sums stay sums
 xor-double : (a b : ℕ) → bitXor (a * 2) (b * 2) ≡ bitXor a b * 2
 xor-double a b = simp add-zero at (xor-block 1 a b 0 0 (lit< tt) (lit< tt))
 
 xor-times : (p a b : ℕ) → a < 2 → b < 2 → bitXor (a * p) (b * p) ≡ bitXor a b * p
-xor-times p zero b ha hb = rw zero-mul
-xor-times p (suc zero) zero ha hb = rw (one-mul, zero-mul) (xor-zero-r p)
-xor-times p (suc zero) (suc zero) ha hb = rw (one-mul, zero-mul) (xor-self p)
-xor-times p (suc zero) (suc (suc b)) ha hb = absurd (omega arith)
-xor-times p (suc (suc a)) b ha hb = absurd (omega arith)
+xor-times p a b ha hb =
+    sym (rw (mod-eq-of-lt (xor-lt 1 a b ha hb), mod-eq-of-lt ha, mod-eq-of-lt hb) at (xor-bit-times a b p))
 
 -- p added where two bits differ, as a sum
 by-sum : (p m a b : ℕ) → a < 2 → b < 2 → cond (eqb a b) m (bitXor m p) ≡ bitXor m (bitXor a b * p)
@@ -71,10 +64,10 @@ module _ (w p : ℕ) where
   step-linear c d a b hc hd ha hb =
       step-sum (bitXor c d) (bitXor a b) (xor-lt w c d hc hd) (xor-lt 1 a b ha hb)
       ∙ ap₂ (λ (x y : ℕ). bitXor x (y * p)) (moved-linear c d)
-      (ap (λ (x : ℕ). bitXor x (bitXor a b)) (top-linear c d) ∙ interchange (top c) (top d) a b)
+      (ap (λ (x : ℕ). bitXor x (bitXor a b)) (top-linear c d) ∙ xor-four (top c) (top d) a b)
       ∙ ap (bitXor (bitXor (moved c) (moved d)))
       (sym (xor-times p (bitXor (top c) a) (bitXor (top d) b) (xor-lt 1 (top c) a (top-lt c hc) ha) (xor-lt 1 (top d) b (top-lt d hd) hb)))
-      ∙ interchange (moved c) (moved d) (bitXor (top c) a * p) (bitXor (top d) b * p)
+      ∙ xor-four (moved c) (moved d) (bitXor (top c) a * p) (bitXor (top d) b * p)
       ∙ sym (ap₂ bitXor (step-sum c a hc ha) (step-sum d b hd hb))
 
   -- two messages of one length

@@ -9,7 +9,7 @@ use lib.Pow.{shr-shr}
 use Rattle.base.proofs.Tabulate.{tabulate-at}
 use Rattle.crc.specs.Crc.{bitsOf}
 use Rattle.crc.specs.Crc5.{headerBit, filling, message, nineBytes}
-use Rattle.crc.proofs.Bits.{bit-of-low, bit-below, shift-above}
+use Rattle.base.proofs.Bits.{bit-of-low, bit-below, shift-above}
 
 -- bit k of the message's 72, the most significant first
 abbrev pub messageBit : ℕ → ℕ → ℕ

@@ -10,7 +10,7 @@ use Rattle.base.proofs.Tests.{lt-or-ge}
 use Rattle.base.proofs.Tabulate.{tabulate-same}
 use Rattle.crc.specs.Crc.{crcOf, bitsOfBytes}
 use Rattle.crc.specs.Crc5.{headerBit, countedFlown, message, nineBytes, poly5, start5, crc5Over, crc5Of}
-use Rattle.crc.proofs.Bits.{same-bits}
+use Rattle.base.proofs.Sums.{same-bits}
 use Rattle.crc.proofs.Nine.{messageBit, header-above, message-header, message-filling}
 use Rattle.crc.proofs.Flown.{flown-lost, flown-kept}
 

@@ -1,11 +1,12 @@
 -- Where each header bit stands: in its word, and on air.
 -- Assumes nothing.
-use mathlib.Core.Path.{_≡_, refl, sym, ap, _∙_}
+use mathlib.Core.Path.{_≡_, sym, ap, _∙_}
 use mathlib.Core.List.{List, [], append-nil}
 use Prim.Native.Nat.{ℕ, suc, _+_, _-_, _*_, _/_, _%_, _^_, _<_}
 use native.Mathlib.Omega.{arith}
 use lib.ListN.{getD}
-use lib.Pow.{shr-shr, field, mod-mod-pow}
+use lib.Pow.{shr-shr}
+use Rattle.base.proofs.Bits.{bit-of-low}
 use Rattle.base.proofs.Tabulate.{tabulate-at}
 use Rattle.word.specs.Words.{encodeOf}
 use Rattle.word.proofs.Multiples.{encode-data}
@@ -19,12 +20,6 @@ pub coded-at : (n j : ℕ) → j < wordCount → getD (codedOf n) j 0 ≡ encode
 unfolding codedOf
 coded-at n j h = tabulate-at (λ j. encodeOf (dataAt n j)) 0 wordCount j h
 
--- bit u of m's w lowest
-low-bit : (m u w : ℕ) → u < w → m % 2 ^ w / 2 ^ u % 2 ≡ m / 2 ^ u % 2
-low-bit m u w h =
-    let e : w ≡ (w - suc u + 1) + u = omega arith in
-    rw e (ap (λ (x : ℕ). x % 2) (field m (w - suc u + 1) u) ∙ mod-mod-pow (m / 2 ^ u) (w - suc u) 1)
-
 -- "Bit 5j+t stands at position 14-t of its word"
 pub bit-place : (n j t : ℕ) → j < wordCount → t < 5 → getD (codedOf n) j 0 / 2 ^ (14 - t) % 2 ≡ headerBit n (5 * j + t)
 unfolding headerBit
@@ -32,7 +27,7 @@ bit-place n j t hj ht =
     let word : 14 - t ≡ 10 + (4 - t) = omega arith in
     let header : 69 - (5 * j + t) ≡ 5 * (wordCount - suc j) + (4 - t) = omega arith in
     rw (coded-at n j hj, word, header, ← shr-shr, encode-data (dataAt n j) (data-lt n j hj), data-at n j hj)
-    (low-bit (n / 2 ^ (5 * (wordCount - suc j))) (4 - t) 5 (omega arith) ∙ ap (λ (x : ℕ). x % 2) (shr-shr n (5 * (wordCount - suc j)) (4 - t)))
+    (bit-of-low (n / 2 ^ (5 * (wordCount - suc j))) 5 (4 - t) (omega arith) ∙ ap (λ (x : ℕ). x % 2) (shr-shr n (5 * (wordCount - suc j)) (4 - t)))
 
 -- so it travels at air bit 14 (14 - t) + j: header bit 0 at 196, bit 69 at 153
 abbrev pub travelsAt : ℕ → ℕ
@@ -44,6 +39,3 @@ bit-travels n k h =
     ap (λ (l : List ℕ). getD l (travelsAt k) 0) (sym (append-nil (airOf (codedOf n))))
     ∙ air-at (codedOf n) [] (k / 5) (14 - k % 5) (omega arith) (omega arith)
     ∙ bit-place n (k / 5) (k % 5) (omega arith) (omega arith) ∙ ap (headerBit n) split
-
-pub marked-places : (travelsAt 0 ≡ 196) × (travelsAt 69 ≡ 153)
-marked-places = (refl, refl)

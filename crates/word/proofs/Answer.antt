@@ -10,14 +10,14 @@ use lib.Bits.{bitXor, xor-lt, xor-comm}
 use lib.Count.{onesIn, ones}
 use lib.Dec.{lit<}
 use lib.ListN.{getD}
-use borrow.Author.Tests.{le-ltb}
+use borrow.Author.Tests.{le-ltb, ne-eqb}
 use Rattle.base.proofs.Tests.{lt-or-ge}
 use Rattle.base.proofs.Tabulate.{tabulate-at}
 use Rattle.base.proofs.Xor.{xor-assoc, xor-twice, xor-back, xor-swap}
 use Rattle.base.proofs.Ones.{ones-in}
 use Rattle.word.specs.declared.Repaired.the-variants.{Word, Beyond}
 use Rattle.word.specs.Words.{wordLimit, Valid, dataOf, encodeOf, distance}
-use Rattle.word.specs.Repairs.{Near, at, nearest, answerOf, repairOf, isBeyond, wordOf, flipsOf, remainderOf, mark, flipsTo, rowOf, syndromes}
+use Rattle.word.specs.Repairs.{Near, at, nearest, answerOf, repairOf, isBeyond, wordOf, flipsOf, remainderOf, mark, flipsTo, rowOf, syndromes, byRow}
 use Rattle.word.proofs.Valids.{valid-lt}
 use Rattle.word.proofs.Nearest.{Close, Finds, finds, finds-none, nearest-finds, nearest-is, nearest-none, close-moved}
 use Rattle.word.proofs.Division.{taken-valid, remainder-lt}
@@ -130,3 +130,13 @@ row-lt w r h e = rw e (remainder-lt w h)
 pub row-of : (table : List ℕ) (r : ℕ) → table ≡ syndromes → r < 1024 → getD table r 0 ≡ rowOf r
 unfolding syndromes
 row-of table r is h = ap (λ (l : List ℕ). getD l r 0) is ∙ tabulate-at rowOf 0 1024 r h
+
+-- so the table answers as the search does
+by-says : (w e : ℕ) → Says w e → repairOf w ≡ byRow w e
+by-says w e (says-beyond is) = sym is
+by-says w e (says-flips f below is) =
+    sym is ∙ ap (Word (bitXor w f)) (ones-in 15 f below) ∙ rw (ne-eqb f mark (λ (h : f ≡ mark). omega arith))
+
+pub table-answers : (w : ℕ) → w < wordLimit → repairOf w ≡ byRow w (getD syndromes (remainderOf w) 0)
+table-answers w h =
+    by-says w (getD syndromes (remainderOf w) 0) (rw (row-of syndromes (remainderOf w) refl (row-lt w (remainderOf w) h refl)) (row-says w h))

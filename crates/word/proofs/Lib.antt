@@ -5,4 +5,3 @@ pub mod Division
 pub mod Rows
 pub mod Answer
 pub mod Turns
-pub mod Marked

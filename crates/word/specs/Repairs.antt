@@ -4,7 +4,8 @@ use mathlib.Core.Bool.{Bool, true, false, cond}
 use mathlib.Core.List.{List}
 use Prim.Native.Nat.{ℕ}
 use lib.Bits.{bitXor}
-use lib.Dec.{leb, ltb}
+use lib.Count.{onesIn}
+use lib.Dec.{leb, ltb, eqb}
 use Rattle.base.specs.Lists.{lowest, tabulate}
 use Rattle.word.specs.Words.{wordLimit, multipleOf, dataOf, encodeOf, distance}
 use Rattle.word.specs.declared.Repaired.{Repaired}
@@ -68,3 +69,7 @@ rowOf r = flipsTo r (nearest r)
 -- "The table is indexed by the 10-bit remainder modulo 0x537: 1,024 rows"
 unfoldable pub syndromes : List ℕ
 syndromes = tabulate 1024 rowOf
+
+-- what a row makes of a word: nothing where it is marked, else the word with the flips undone, and how many they are
+abbrev pub byRow : ℕ → ℕ → Repaired
+byRow w e = cond (eqb e mark) Beyond (Word (bitXor w e) (onesIn 15 e))

@@ -4,7 +4,6 @@ use mathlib.Core.Path.{_≡_, sym, ap, _∙_}
 use Prim.Native.Nat.{ℕ, _+_, _-_, _*_, _/_, _%_, _^_, _<_}
 use native.Mathlib.Omega.{arith}
 use lib.Pow.{shr-shr, high, low, field, mod-mod-pow}
-use Rattle.base.proofs.Sums.{sum-same, sum-bits}
 
 -- the lowest k bits keep those below k
 pub bit-of-low : (n k q : ℕ) → q < k → n % 2 ^ k / 2 ^ q % 2 ≡ n / 2 ^ q % 2
@@ -20,8 +19,3 @@ module _ (x k s : ℕ) (small : s < 2 ^ k) where
 
   pub shift-above : (q : ℕ) → (x * 2 ^ k + s) / 2 ^ (k + q) ≡ x / 2 ^ q
   shift-above q = sym (shr-shr (x * 2 ^ k + s) k q) ∙ ap (λ (y : ℕ). y / 2 ^ q) (high x k small)
-
--- numbers of w bits with the same bits are the same
-pub same-bits : (w x y : ℕ) → ((q : ℕ) → q < w → x / 2 ^ q % 2 ≡ y / 2 ^ q % 2) → x % 2 ^ w ≡ y % 2 ^ w
-same-bits w x y same =
-    sym (sum-bits w x) ∙ sum-same w _ _ (λ q h. ap (λ (b : ℕ). b * 2 ^ q) (same q h)) ∙ sum-bits w y

@@ -1,0 +1,114 @@
+-- One answer counted: a record hears its own frames only, a refusal its own number, and the sum grows by one.
+-- Assumes nothing.
+use mathlib.Core.Path.{_≡_, refl, sym, _∙_}
+use mathlib.Core.Bool.{Bool, true, false, cond}
+use Prim.Native.Nat.{ℕ, _+_, _≤_, _<_}
+use native.Mathlib.Omega.{arith}
+use lib.Dec.{eqb}
+use lib.ListN.{length, length-set}
+use lib.Seq.{getD-set-same, getD-set-other}
+use borrow.Author.Tests.{eqb-true, eqb-false}
+use Rattle.header.specs.declared.Answer.{Answer}
+use Rattle.header.specs.declared.Answer.the-variants.{Accepted, Refused}
+use Rattle.sheet.specs.declared.Source.{Source}
+use Rattle.sheet.specs.declared.Sheet.{Sheet}
+use Rattle.sheet.specs.Records.{silent, addOf, nextOf}
+use Rattle.sheet.specs.Sheets.{records, refusalCounts, recordOf, HasCount, slotOf, sourceAt, refusalsAt, acceptOf, refuseOf, countedOf, acceptedOf, refusedOf, heardOf, fullSheet}
+use Rattle.sheet.specs.Histories.{ownIn, replayFrom, refusedIn}
+use Rattle.sheet.proofs.Growing.{Within, within-more, within-heard, next-frames}
+use Rattle.sheet.proofs.Offering.{Countable, recorded, numbered}
+use Rattle.sheet.proofs.OneMore.{sum-part, sum-set}
+
+-- a sheet that has taken n frames
+pub record Grown (n : ℕ) (sheet : Sheet) : Type 0 where
+  pub sources-long : length (sheet .sources) ≡ records
+  pub refusals-long : length (sheet .refusals) ≡ refusalCounts
+  pub heard-is : heardOf sheet ≡ n
+  pub within : (k : ℕ) → Within n (sourceAt sheet k)
+
+slot-lt : (number : ℕ) → HasCount number → slotOf number < refusalCounts
+slot-lt number counted = omega arith
+
+module _ (n : ℕ) (sheet : Sheet) (so : Grown n sheet) where
+  -- no refusal's count is above the number of frames
+  pub refusals-le : (k : ℕ) → k < refusalCounts → refusalsAt sheet k ≤ n
+  unfolding refusedOf
+  refusals-le k h = omega (arith, so .heard-is, sum-part (refusalsAt sheet) k refusalCounts h)
+
+  -- a record hears its own frames
+  pub counted-own : (k : ℕ) (a : Answer) → Countable a → sourceAt (countedOf sheet a) k ≡ replayFrom (sourceAt sheet k) (ownIn k a)
+  unfolding acceptOf refuseOf
+  counted-own k (Refused why) known = refl
+  counted-own k (Accepted h flips) (recorded known few) = by (eqb (recordOf h) k) refl
+    where
+      next : Source
+      next = nextOf (sourceAt sheet (recordOf h)) (h .«fields» .«fr_cnt_tx») flips
+
+      by : (b : Bool) → eqb (recordOf h) k ≡ b → sourceAt (acceptOf sheet h flips) k ≡ replayFrom (sourceAt sheet k) (ownIn k (Accepted h flips))
+      by true e =
+          let own : recordOf h ≡ k = eqb-true (recordOf h) k e in
+          rw (e, ← own) (getD-set-same (sheet .sources) (recordOf h) next silent (rw (so .sources-long) known))
+      by false e = rw e (getD-set-other (sheet .sources) (recordOf h) k next silent (λ (q : k ≡ recordOf h). eqb-false (recordOf h) k e (sym q)))
+
+  module _ (room : n < fullSheet) where
+    -- a count of a sheet with room has room
+    exact : (count : ℕ) → count ≤ n → addOf count 1 ≡ count + 1
+    exact count h = omega arith
+
+    refusal-more : (number : ℕ) → HasCount number → addOf (refusalsAt sheet (slotOf number)) 1 ≡ refusalsAt sheet (slotOf number) + 1
+    refusal-more number counted = exact (refusalsAt sheet (slotOf number)) (refusals-le (slotOf number) (slot-lt number counted))
+
+    -- a refusal's count grows by the answers with its number
+    pub counted-refusals : (number : ℕ) → HasCount number → (a : Answer) → Countable a → refusalsAt (countedOf sheet a) (slotOf number) ≡ refusalsAt sheet (slotOf number) + refusedIn number a
+    unfolding acceptOf refuseOf
+    counted-refusals number known (Accepted h flips) countable = omega arith
+    counted-refusals number known (Refused why) (numbered counted) = by (eqb (why .number) number) refl
+      where
+        i : ℕ
+        i = slotOf (why .number)
+
+        more : ℕ
+        more = addOf (refusalsAt sheet i) 1
+
+        by : (b : Bool) → eqb (why .number) number ≡ b → refusalsAt (refuseOf sheet (why .number)) (slotOf number) ≡ refusalsAt sheet (slotOf number) + cond b 1 0
+        by true e =
+            let own : why .number ≡ number = eqb-true (why .number) number e in
+            rw (← own) (getD-set-same (sheet .refusals) i more 0 (rw (so .refusals-long) (slot-lt (why .number) counted)) ∙ refusal-more (why .number) counted)
+        by false e =
+            getD-set-other (sheet .refusals) i (slotOf number) more 0 (λ (q : slotOf number ≡ i). eqb-false (why .number) number e (omega arith)) ∙ omega arith
+
+    -- the sum of all counts grows by one
+    pub counted-heard : (a : Answer) → Countable a → heardOf (countedOf sheet a) ≡ n + 1
+    unfolding acceptOf refuseOf acceptedOf refusedOf
+    counted-heard (Accepted h flips) (recorded known few) =
+        let old = sourceAt sheet (recordOf h) in
+        let counter = h .«fields» .«fr_cnt_tx» in
+        omega (arith, so .heard-is, sum-set (λ s. s .frames) silent (sheet .sources) (recordOf h) (nextOf old counter flips) records known (rw (so .sources-long) known) (next-frames old counter flips ∙ exact (old .frames) (so .within (recordOf h) .frames-le)))
+    counted-heard (Refused why) (numbered counted) =
+        let i = slotOf (why .number) in
+        let inside = slot-lt (why .number) counted in
+        omega (arith, so .heard-is, sum-set (λ c. c) 0 (sheet .refusals) i (addOf (refusalsAt sheet i) 1) refusalCounts inside (rw (so .refusals-long) inside) (refusal-more (why .number) counted))
+
+  counted-within : (a : Answer) → Countable a → (k : ℕ) → Within (n + 1) (sourceAt (countedOf sheet a) k)
+  counted-within (Accepted h flips) (recorded known few) k =
+      rw (counted-own k (Accepted h flips) (recorded known few))
+      (within-heard (eqb (recordOf h) k) n (sourceAt sheet k) (so .within k) (record { counter = h .«fields» .«fr_cnt_tx»; flips = flips }) few)
+  counted-within (Refused why) known k = rw (counted-own k (Refused why) known) (within-more n (sourceAt sheet k) (so .within k))
+
+  counted-sources-long : (a : Answer) → length (countedOf sheet a .sources) ≡ records
+  unfolding acceptOf refuseOf
+  counted-sources-long (Accepted h flips) = length-set (sheet .sources) (recordOf h) _ ∙ so .sources-long
+  counted-sources-long (Refused why) = so .sources-long
+
+  counted-refusals-long : (a : Answer) → length (countedOf sheet a .refusals) ≡ refusalCounts
+  unfolding acceptOf refuseOf
+  counted-refusals-long (Accepted h flips) = so .refusals-long
+  counted-refusals-long (Refused why) = length-set (sheet .refusals) (slotOf (why .number)) _ ∙ so .refusals-long
+
+  pub counted-grown : n < fullSheet → (a : Answer) → Countable a → Grown (n + 1) (countedOf sheet a)
+  counted-grown room a known = record {
+    sources-long = counted-sources-long a;
+    refusals-long = counted-refusals-long a;
+    heard-is = counted-heard room a known;
+    within = counted-within a known;
+  }

@@ -1,0 +1,64 @@
+-- THE RULE OF HISTORIES: what the sheet of a history says of the frames that it was offered.
+-- Assumes nothing.
+use mathlib.Core.Path.{_≡_, sym, ap, _∙_}
+use mathlib.Core.List.{List, _++_}
+use Prim.Native.Nat.{ℕ, _+_, _≤_, _<_, min}
+use native.Mathlib.Omega.{arith}
+use lib.ListN.{length}
+use lib.Seq.{take-append-le}
+use Rattle.base.specs.Checks.{refusal}
+use Rattle.header.specs.declared.Answer.the-variants.{Refused}
+use Rattle.frame.specs.Frames.{frameOf}
+use Rattle.sheet.specs.declared.Source.{Source}
+use Rattle.sheet.specs.declared.Sheet.{Sheet}
+use Rattle.sheet.specs.Sheets.{HasCount, slotOf, newSheet, sourceAt, refusalsAt, acceptedOf, refusedOf, fullSheet, takenOf, offerOf}
+use Rattle.sheet.specs.Histories.{Frame, sheetOf, takenFrom, ownOf, replayFrom, replayOf, refusedWith, Unfilled}
+use Rattle.sheet.proofs.Refusals.{room-takes, full-refuses}
+use Rattle.sheet.proofs.Counted.{refusals-le}
+use Rattle.sheet.proofs.Running.{countAll, new-silent, new-refusals, new-grown, history-taken, history-few, history-grown}
+use Rattle.sheet.proofs.Replay.{all-own, all-refused}
+
+module _ (history : List Frame) where
+  -- "Frames offered, counted from the history, equal accepted over all sources plus refused over all numbers."
+  pub offered-counted : min fullSheet (length history) ≡ acceptedOf (sheetOf history) + refusedOf (sheetOf history)
+  offered-counted = sym (history-grown history .heard-is)
+
+  -- a source's record is the replay of its own accepted frames
+  pub own-record : (k : ℕ) → sourceAt (sheetOf history) k ≡ replayOf (ownOf k (takenFrom history))
+  own-record k =
+      ap (λ (t : Sheet). sourceAt t k) (history-taken history)
+      ∙ all-own k (takenFrom history) 0 newSheet new-grown (history-few history)
+      ∙ ap (λ (s : Source). replayFrom s (ownOf k (takenFrom history))) (new-silent k)
+
+  -- a refusal's count is the number of frames refused so
+  pub own-refusals : (number : ℕ) → HasCount number → refusalsAt (sheetOf history) (slotOf number) ≡ refusedWith number (takenFrom history)
+  own-refusals number known =
+      ap (λ (t : Sheet). refusalsAt t (slotOf number)) (history-taken history)
+      ∙ all-refused number known (takenFrom history) 0 newSheet new-grown (history-few history)
+      ∙ omega (arith, new-refusals (slotOf number))
+
+  -- "a count that would pass 4,294,967,295 stays there, which never happens to a sheet grown from a new one"
+  pub never-filled : Unfilled (sheetOf history)
+  never-filled =
+      let so = history-grown history in
+      record {
+        frames = λ k. omega (arith, so .within k);
+        repaired = λ k. omega (arith, so .within k);
+        missed = λ k. omega (arith, so .within k);
+        repeats = λ k. omega (arith, so .within k);
+        refusals = λ k h. omega (arith, refusals-le (min fullSheet (length history)) (sheetOf history) so k h);
+      }
+
+  -- "After 65,535 offered frames the sheet is full": before that the sheet takes a frame,
+  pub taken-before : length history < fullSheet → (air payload : List ℕ) → offerOf (sheetOf history) air payload ≡ takenOf (sheetOf history) (frameOf air payload)
+  taken-before few = room-takes (sheetOf history) (omega (arith, history-grown history .heard-is))
+
+  module _ (many : fullSheet ≤ length history) where
+    -- and from then on every frame is refused with 17
+    pub refused-after : (air payload : List ℕ) → offerOf (sheetOf history) air payload ≡ record { answer = Refused (refusal 17 fullSheet); sheet = sheetOf history }
+    refused-after = full-refuses (sheetOf history) (omega (arith, history-grown history .heard-is))
+
+    -- and the sheet is the same after whatever follows
+    pub same-after : (later : List Frame) → sheetOf (history ++ later) ≡ sheetOf history
+    same-after later =
+        history-taken (history ++ later) ∙ ap (countAll newSheet) (take-append-le fullSheet history later many) ∙ sym (history-taken history)

@@ -1,0 +1,83 @@
+-- A sheet over a history: it takes frames while it has room, and a full one stays as it is.
+-- Assumes nothing.
+use mathlib.Core.Path.{_≡_, refl, ap, ap₂, _∙_}
+use mathlib.Core.List.{List, [], _∷_}
+use Prim.Native.Nat.{ℕ, zero, suc, _+_, _≤_, _<_, min}
+use native.Mathlib.Nat.{zero-add}
+use native.Mathlib.Omega.{arith}
+use lib.ListN.{length, getD, take, replicate, length-take}
+use Rattle.sheet.specs.declared.Source.{Source}
+use Rattle.sheet.specs.declared.Sheet.{Sheet}
+use Rattle.sheet.specs.declared.Offered.{Offered}
+use Rattle.sheet.specs.Records.{silent}
+use Rattle.sheet.specs.Sheets.{records, refusalCounts, newSheet, sourceAt, refusalsAt, countedOf, acceptedOf, refusedOf, heardOf, fullSheet}
+use Rattle.sheet.specs.Histories.{Frame, answerOf, runOf, sheetOf, takenFrom}
+use Rattle.sheet.proofs.Offering.{frame-countable}
+use Rattle.sheet.proofs.Refusals.{room-takes, full-refuses}
+use Rattle.sheet.proofs.Counted.{Grown, counted-grown}
+use Rattle.sheet.proofs.OneMore.{sum-zeros}
+
+-- a new sheet: nothing is counted
+read-replicated : {A : Type 0} (n k : ℕ) (a : A) → getD (replicate n a) k a ≡ a
+read-replicated {A} zero k a = refl
+read-replicated {A} (suc n) zero a = refl
+read-replicated {A} (suc n) (suc k) a = read-replicated n k a
+
+pub new-silent : (k : ℕ) → sourceAt newSheet k ≡ silent
+new-silent k = read-replicated records k silent
+
+pub new-refusals : (k : ℕ) → refusalsAt newSheet k ≡ 0
+new-refusals k = read-replicated refusalCounts k 0
+
+new-heard : heardOf newSheet ≡ 0
+unfolding acceptedOf refusedOf
+new-heard = ap₂ (λ (x y : ℕ). x + y) (sum-zeros records (λ k. sourceAt newSheet k .frames) (λ k. ap (λ (s : Source). s .frames) (new-silent k))) (sum-zeros refusalCounts (refusalsAt newSheet) new-refusals)
+
+pub new-grown : Grown 0 newSheet
+new-grown = record {
+  sources-long = refl;
+  refusals-long = refl;
+  heard-is = new-heard;
+  within = λ k. rw (new-silent k) (omega arith);
+}
+
+-- a sheet after frames that it takes
+abbrev pub countAll : Sheet → List Frame → Sheet
+countAll sheet [] = sheet
+countAll sheet (f ∷ fs) = countAll (countedOf sheet (answerOf f)) fs
+
+pub one-grown : (n : ℕ) (sheet : Sheet) → Grown n sheet → n < fullSheet → (f : Frame) → Grown (n + 1) (countedOf sheet (answerOf f))
+one-grown n sheet so room f = counted-grown n sheet so room (answerOf f) (frame-countable (f .air) (f .payload))
+
+all-grown : (fs : List Frame) (n : ℕ) (sheet : Sheet) → Grown n sheet → n + length fs ≤ fullSheet → Grown (n + length fs) (countAll sheet fs)
+all-grown [] n sheet so room = let same : n + 0 ≡ n = omega arith in rw same so
+all-grown (f ∷ fs) n sheet so room =
+    let shift : n + suc (length fs) ≡ n + 1 + length fs = omega arith in
+    rw shift (all-grown fs (n + 1) (countedOf sheet (answerOf f)) (one-grown n sheet so (omega arith) f) (omega arith))
+
+-- a full sheet stays as it is
+pub full-stays : (sheet : Sheet) → fullSheet ≤ heardOf sheet → (fs : List Frame) → runOf sheet fs ≡ sheet
+full-stays sheet many [] = refl
+full-stays sheet many (f ∷ fs) =
+    ap (λ (o : Offered). runOf (o .sheet) fs) (full-refuses sheet many (f .air) (f .payload)) ∙ full-stays sheet many fs
+
+-- so a sheet with room for m frames takes m frames
+run-takes : (fs : List Frame) (m n : ℕ) (sheet : Sheet) → n + m ≡ fullSheet → Grown n sheet → runOf sheet fs ≡ countAll sheet (take m fs)
+run-takes [] zero n sheet e so = refl
+run-takes [] (suc m) n sheet e so = refl
+run-takes (f ∷ fs) zero n sheet e so = full-stays sheet (omega (arith, so .heard-is)) (f ∷ fs)
+run-takes (f ∷ fs) (suc m) n sheet e so =
+    ap (λ (o : Offered). runOf (o .sheet) fs) (room-takes sheet (omega (arith, so .heard-is)) (f .air) (f .payload))
+    ∙ run-takes fs m (n + 1) (countedOf sheet (answerOf f)) (omega arith) (one-grown n sheet so (omega arith) f)
+
+-- and a new sheet the first 65,535
+pub history-taken : (history : List Frame) → sheetOf history ≡ countAll newSheet (takenFrom history)
+history-taken history = run-takes history fullSheet 0 newSheet refl new-grown
+
+pub history-few : (history : List Frame) → 0 + length (takenFrom history) ≤ fullSheet
+history-few history = omega (arith, length-take fullSheet history)
+
+pub history-grown : (history : List Frame) → Grown (min fullSheet (length history)) (sheetOf history)
+history-grown history =
+    rw (history-taken history, ← length-take fullSheet history, ← zero-add (length (takenFrom history)))
+    (all-grown (takenFrom history) 0 newSheet new-grown (history-few history))

@@ -1,0 +1,34 @@
+-- The loop that adds n counts.
+-- Assumes nothing.
+use mathlib.Core.Path.{_≡_, sym}
+use Prim.Native.Nat.{ℕ, _+_, _*_, _≤_, _<_, zero-le}
+use native.Mathlib.Omega.{arith}
+use mir.Syntax.{w32, w64}
+use mir.Val.{Fits}
+use Rattle.base.specs.Lists.{sumTo}
+use Rattle.base.proofs.Sums.{sum-none, sum-more}
+use Rattle.sheet.specs.Records.{countLimit}
+
+module _ (n : ℕ) (f : ℕ → ℕ) where
+  -- the counts before k are in the sum
+  pub record Summed (k sum : ℕ) : Type 0 where
+    pub inside : k ≤ n
+    pub small : sum ≤ k * countLimit
+    pub is : sum ≡ sumTo k f
+
+  pub sum-starts : Summed 0 0
+  sum-starts = record { inside = zero-le; small = zero-le; is = sym (sum-none f) }
+
+  module _ (k sum : ℕ) (so : Summed k sum) where
+    -- so few counts have room in 64 bits
+    pub sum-fits : n ≤ countLimit → k < n → (x : ℕ) → Fits w32 x → Fits w64 (sum + x)
+    sum-fits few h x b = record { fits = omega (arith, so .small) }
+
+    pub sum-goes-on : k < n → (x : ℕ) → Fits w32 x → x ≡ f k → Summed (k + 1) (sum + x)
+    sum-goes-on h x b e = record { inside = omega arith; small = omega (arith, so .small); is = sum-more k f sum x (so .is) e }
+
+    pub sum-ends : n ≤ k → sum ≡ sumTo n f
+    sum-ends h = let all : k ≡ n = omega (arith, so .inside) in rw all at (so .is)
+
+    pub sum-small : sum ≤ n * countLimit
+    sum-small = omega (arith, so .inside, so .small)

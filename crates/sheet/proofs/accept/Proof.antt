@@ -1,0 +1,39 @@
+-- `sheet::accept` meets its contract: the record of the frame's source is the next one, and all else is kept.
+-- Assumes nothing.
+use borrow.Author.Needs.{needs}
+use Rattle.sheet.proofs.Offering.{accepts}
+use Rattle.sheet.proofs.accept.Statement.{statement}
+use Rattle.sheet.proofs.accept.Tie as tie
+
+cast-k : tie.Need-cast-k
+cast-k c = search needs
+
+mul-source : tie.Need-mul-source
+mul-source c = search needs
+
+element-copy-out-source : tie.Need-element-copy-out-source
+element-copy-out-source c = search needs
+
+next-requires : tie.Need-next-requires
+next-requires c κs = search needs
+
+mul-changed : tie.Need-mul-changed
+mul-changed c = search needs
+
+element-set-from-changed : tie.Need-element-set-from-changed
+element-set-from-changed c = search needs
+
+returns : tie.Need-returns
+returns c = search (needs, accepts)
+
+pub accept-spec : {M : Type 1} → statement M
+accept-spec =
+    tie.close
+    (tie.spec
+    cast-k
+    mul-source
+    element-copy-out-source
+    next-requires
+    mul-changed
+    element-set-from-changed
+    returns)

@@ -1,0 +1,20 @@
+-- `sheet::add` meets its contract: the test says whether the sum has room.
+-- Assumes nothing.
+use borrow.Author.Needs.{needs}
+use Rattle.sheet.proofs.add.Statement.{statement}
+use Rattle.sheet.proofs.add.Tie as tie
+
+sub-if1 : tie.Need-sub-if1
+sub-if1 c = search needs
+
+returns : tie.Need-returns
+returns c = search needs
+
+add-result : tie.Need-add-result
+add-result c = search needs
+
+returns-2 : tie.Need-returns-2
+returns-2 c = search needs
+
+pub add-spec : {M : Type 1} → statement M
+add-spec = tie.close (tie.spec sub-if1 returns add-result returns-2)
