@@ -1,7 +1,62 @@
-// The one refusal of every layer. What else stands here are definitions (specs/) and laws (proofs/) that several crates cite.
+// The one refusal of every layer, and its numbers. What else stands here are definitions (specs/) and laws (proofs/) that several crates
+// cite.
 
-// "A refusal carries number and place only": the number is that of the paper's table, the place what the table names beside it.
+// "A refusal carries number and place only": the number is one of those below, the place what the paper's table names beside it.
 pub struct Refusal {
     pub number: u8,
     pub place: usize,
 }
+
+// Frame: "header slice is not 210 long"
+pub const NOT_210_LONG: u8 = 1;
+
+// "an element is above 1"
+pub const NO_BIT: u8 = 2;
+
+// "a word is beyond repair"
+pub const BEYOND_REPAIR: u8 = 3;
+
+// "CRC5 differs"
+pub const CRC5_DIFFERS: u8 = 4;
+
+// "SrcId above 7"
+pub const UNKNOWN_SOURCE: u8 = 5;
+
+// "AiTypeSrc above 3"
+pub const UNKNOWN_CODING: u8 = 6;
+
+// "payload length is not PduLength"
+pub const OTHER_LENGTH: u8 = 7;
+
+// "CRC13 differs"
+pub const CRC13_DIFFERS: u8 = 8;
+
+// Power page: "payload under 8 bytes"
+pub const NO_PAGE_HEADER: u8 = 9;
+
+// "TimeTagged and under 12"
+pub const NO_TIME_TAG: u8 = 10;
+
+// "FrameLength is not the payload length less 8, or less 12 if TimeTagged"
+pub const OTHER_FRAME_LENGTH: u8 = 11;
+
+// "fewer than 34 user bytes"
+pub const FEW_USER_BYTES: u8 = 12;
+
+// Writer: "output under 210"
+pub const SHORT_OUTPUT: u8 = 13;
+
+// "a field out of range"
+pub const OUT_OF_RANGE: u8 = 14;
+
+// "payload over 1,023"
+pub const LONG_PAYLOAD: u8 = 15;
+
+// "scaling with S outside 1 to 32,767"
+pub const NO_SPREAD: u8 = 16;
+
+// "sheet full"
+pub const SHEET_FULL: u8 = 17;
+
+// "page writer's output under 34"
+pub const SHORT_PAGE_OUTPUT: u8 = 18;

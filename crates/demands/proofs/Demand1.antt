@@ -3,10 +3,10 @@
 -- That any bytes may be handed in is said by the contracts themselves: no outside function has a `requires`. Here: each refusal is given
 -- exactly when its row of the table applies and no row before it does, and a refused call changes nothing.
 -- Assumes nothing.
-use mathlib.Core.Path.{_≡_, refl, ap, _∙_}
-use mathlib.Core.Bool.{Bool, true, false, not}
+use mathlib.Core.Path.{_≡_, ap, _∙_}
+use mathlib.Core.Bool.{true, not}
 use mathlib.Core.List.{List, [], _∷_, _++_}
-use Prim.Native.Nat.{ℕ}
+use Prim.Native.Nat.{ℕ, _≤_}
 use native.Mathlib.Omega.{arith}
 use lib.IntN.{ℤ}
 use lib.Ieee.{Float}
@@ -17,7 +17,6 @@ use Rattle.base.proofs.Exactly.{gives, given}
 use Rattle.air.specs.Air.{wordsOf}
 use Rattle.air.specs.Mends.{flipsIn}
 use Rattle.header.specs.declared.Fields.{Fields}
-use Rattle.header.specs.declared.Answer.{Answer}
 use Rattle.header.specs.declared.Answer.the-variants.{Refused}
 use Rattle.header.specs.declared.Written.{Written}
 use Rattle.header.specs.declared.Written.the-variants.{Done, Refused as NotWritten}
@@ -37,7 +36,8 @@ use Rattle.page.specs.Rows.{short, writeOf, writtenOf, PageWritten}
 use Rattle.page.specs.Shown.{valueOf, allowed, shownOf}
 use Rattle.frame.specs.Frames.{frameChecks, frameOf}
 use Rattle.sheet.specs.declared.Sheet.{Sheet}
-use Rattle.sheet.specs.Sheets.{fullSheet, fullOf, refuseOf, countedOf, takenOf, offerOf}
+use Rattle.sheet.specs.Sheets.{heardOf, fullSheet, offerOf}
+use Rattle.sheet.proofs.Refusals.{full-refuses, only-17, refused-keeps}
 use Rattle.frame.proofs.Demand2.{refused-exactly}
 
 -- an answer is given exactly when its row applies and no row before it does
@@ -104,18 +104,14 @@ pub rows-refused-unchanged : (rows : List ℤ) (before after : List ℕ) (r : Wr
 unfolding writtenOf
 rows-refused-unchanged rows before after r so e = so .bytes ∙ rw e
 
--- 17: "sheet full, checked before anything else, sheet unchanged (place 65,535)"
-pub offer-refused-full : (sheet : Sheet) (air payload : List ℕ) → fullOf sheet ≡ true → offerOf sheet air payload ≡ record { answer = Refused (refusal 17 fullSheet); sheet = sheet }
-unfolding offerOf
-offer-refused-full sheet air payload full = rw full
+-- 17: "sheet full, checked before anything else, sheet unchanged (place 65,535)", exactly when the sum is 65,535 or more
+pub offer-refused-full : (sheet : Sheet) (air payload : List ℕ) → fullSheet ≤ heardOf sheet
+    → offerOf sheet air payload ≡ record { answer = Refused (refusal 17 fullSheet); sheet = sheet }
+offer-refused-full sheet air payload many = full-refuses sheet many air payload
+
+pub offer-refused-only-full : (sheet : Sheet) (air payload : List ℕ) → offerOf sheet air payload .answer ≡ Refused (refusal 17 fullSheet) → fullSheet ≤ heardOf sheet
+offer-refused-only-full = only-17
 
 -- and an offered frame that is refused, whatever the number, leaves the frame records as they were
 pub offer-refused-unchanged : (sheet : Sheet) (air payload : List ℕ) (why : Refusal) → offerOf sheet air payload .answer ≡ Refused why → offerOf sheet air payload .sheet .sources ≡ sheet .sources
-unfolding offerOf refuseOf
-offer-refused-unchanged sheet air payload why = by (fullOf sheet)
-  where
-    by : (full : Bool)
-        → first (takenOf sheet (frameOf air payload)) (check full (record { answer = Refused (refusal 17 fullSheet); sheet = sheet }) ∷ []) .answer ≡ Refused why
-        → first (takenOf sheet (frameOf air payload)) (check full (record { answer = Refused (refusal 17 fullSheet); sheet = sheet }) ∷ []) .sheet .sources ≡ sheet .sources
-    by true e = refl
-    by false e = ap (λ (a : Answer). countedOf sheet a .sources) e
+offer-refused-unchanged = refused-keeps

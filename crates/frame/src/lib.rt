@@ -1,4 +1,6 @@
 // A frame: header and payload together.
+use base::CRC13_DIFFERS;
+use base::OTHER_LENGTH;
 use base::Refusal;
 use header::Answer;
 use header::Header;
@@ -14,14 +16,14 @@ fn judge_payload(header: Header, flips: u32, payload: &[u8]) -> Answer
     let pdu_length = header.pdu_length as usize;
     if payload.len() != pdu_length {
         return Answer::Refused(Refusal {
-            number: 7,
+            number: OTHER_LENGTH,
             place: pdu_length,
         });
     }
     let crc13 = crc::crc13(payload);
     if crc13 != header.crc13 {
         return Answer::Refused(Refusal {
-            number: 8,
+            number: CRC13_DIFFERS,
             place: crc13 as usize,
         });
     }

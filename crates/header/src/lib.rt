@@ -1,5 +1,14 @@
 // The header: its fields, the reader of a header alone (refusals 1 to 6) and the writer (13 to 15).
+use base::BEYOND_REPAIR;
+use base::CRC5_DIFFERS;
+use base::LONG_PAYLOAD;
+use base::NO_BIT;
+use base::NOT_210_LONG;
+use base::OUT_OF_RANGE;
 use base::Refusal;
+use base::SHORT_OUTPUT;
+use base::UNKNOWN_CODING;
+use base::UNKNOWN_SOURCE;
 ghost use mathlib.Core.Path.{_≡_};
 ghost use mathlib.Core.List.{[], _∷_, _++_, map};
 ghost use Prim.Native.Nat.{ℕ, _+_, _*_, _<_, _≤_, _^_};
@@ -125,21 +134,21 @@ fn judge(hi: u64, lo: u64, flips: u32) -> Answer
     let crc5 = crc::crc5(hi, lo);
     if crc5 != header.crc5 {
         return Answer::Refused(Refusal {
-            number: 4,
+            number: CRC5_DIFFERS,
             place: crc5 as usize,
         });
     }
     let src_id = header.fields.src_id;
     if 7 < src_id {
         return Answer::Refused(Refusal {
-            number: 5,
+            number: UNKNOWN_SOURCE,
             place: src_id as usize,
         });
     }
     let ai_type_src = header.fields.ai_type_src;
     if 3 < ai_type_src {
         return Answer::Refused(Refusal {
-            number: 6,
+            number: UNKNOWN_CODING,
             place: ai_type_src as usize,
         });
     }
@@ -167,7 +176,7 @@ fn read_bits(table: &[u16; 1024], air: &[u8]) -> Answer
     let beyond = mended.beyond;
     if beyond < 14 {
         return Answer::Refused(Refusal {
-            number: 3,
+            number: BEYOND_REPAIR,
             place: beyond,
         });
     }
@@ -184,14 +193,14 @@ pub fn read_header_in(table: &[u16; 1024], header: &[u8]) -> Answer
     let n = header.len();
     if n != 210 {
         return Answer::Refused(Refusal {
-            number: 1,
+            number: NOT_210_LONG,
             place: n,
         });
     }
     let at = air::first_no_bit(header);
     if at < 210 {
         return Answer::Refused(Refusal {
-            number: 2,
+            number: NO_BIT,
             place: at,
         });
     }
@@ -372,21 +381,21 @@ pub fn write_header(fields: Fields, payload: &[u8], out: &mut [u8]) -> Written
     let room = out.len();
     if room < 210 {
         return Written::Refused(Refusal {
-            number: 13,
+            number: SHORT_OUTPUT,
             place: room,
         });
     }
     let over = first_over(fields);
     if over < 14 {
         return Written::Refused(Refusal {
-            number: 14,
+            number: OUT_OF_RANGE,
             place: over,
         });
     }
     let size = payload.len();
     if 1023 < size {
         return Written::Refused(Refusal {
-            number: 15,
+            number: LONG_PAYLOAD,
             place: size,
         });
     }

@@ -26,6 +26,7 @@ pub record Grown (n : ℕ) (sheet : Sheet) : Type 0 where
   pub heard-is : heardOf sheet ≡ n
   pub within : (k : ℕ) → Within n (sourceAt sheet k)
 
+-- the place of a number among the counts
 slot-lt : (number : ℕ) → HasCount number → slotOf number < refusalCounts
 slot-lt number counted = omega arith
 
@@ -55,6 +56,7 @@ module _ (n : ℕ) (sheet : Sheet) (so : Grown n sheet) where
     exact : (count : ℕ) → count ≤ n → addOf count 1 ≡ count + 1
     exact count h = omega arith
 
+    -- so a refusal's count grows by one
     refusal-more : (number : ℕ) → HasCount number → addOf (refusalsAt sheet (slotOf number)) 1 ≡ refusalsAt sheet (slotOf number) + 1
     refusal-more number counted = exact (refusalsAt sheet (slotOf number)) (refusals-le (slotOf number) (slot-lt number counted))
 
@@ -89,12 +91,14 @@ module _ (n : ℕ) (sheet : Sheet) (so : Grown n sheet) where
         let inside = slot-lt (why .number) counted in
         omega (arith, so .heard-is, sum-set (λ c. c) 0 (sheet .refusals) i (addOf (refusalsAt sheet i) 1) refusalCounts inside (rw (so .refusals-long) inside) (refusal-more (why .number) counted))
 
+  -- every record stays within its bounds
   counted-within : (a : Answer) → Countable a → (k : ℕ) → Within (n + 1) (sourceAt (countedOf sheet a) k)
   counted-within (Accepted h flips) (recorded known few) k =
       rw (counted-own k (Accepted h flips) (recorded known few))
       (within-heard (eqb (recordOf h) k) n (sourceAt sheet k) (so .within k) (record { counter = h .«fields» .«fr_cnt_tx»; flips = flips }) few)
   counted-within (Refused why) known k = rw (counted-own k (Refused why) known) (within-more n (sourceAt sheet k) (so .within k))
 
+  -- no record and no count comes or goes
   counted-sources-long : (a : Answer) → length (countedOf sheet a .sources) ≡ records
   unfolding acceptOf refuseOf
   counted-sources-long (Accepted h flips) = length-set (sheet .sources) (recordOf h) _ ∙ so .sources-long
@@ -105,6 +109,7 @@ module _ (n : ℕ) (sheet : Sheet) (so : Grown n sheet) where
   counted-refusals-long (Accepted h flips) = so .refusals-long
   counted-refusals-long (Refused why) = length-set (sheet .refusals) (slotOf (why .number)) _ ∙ so .refusals-long
 
+  -- so the sheet has taken one frame more
   pub counted-grown : n < fullSheet → (a : Answer) → Countable a → Grown (n + 1) (countedOf sheet a)
   counted-grown room a known = record {
     sources-long = counted-sources-long a;

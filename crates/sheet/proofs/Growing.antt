@@ -48,6 +48,7 @@ next-cases P s new flips each = by (s .heard) (eqb new (s .last))
     by true false = each 0 (missedOf (s .last) new) (omega arith) (omega arith)
     by false same = each 0 0 (omega arith) (omega arith)
 
+-- and always one frame
 pub next-frames : (s : Source) (new flips : ℕ) → nextOf s new flips .frames ≡ addOf (s .frames) 1
 unfolding tallyOf
 next-frames s new flips = next-cases (λ r. r .frames ≡ addOf (s .frames) 1) s new flips (λ repeats missed a b. refl)
@@ -63,9 +64,11 @@ pub record Within (n : ℕ) (s : Source) : Type 0 where
   pub missed-le : s .missed ≤ counters * n
   pub repeats-le : s .repeats ≤ n
 
+-- n is a bound: it may be larger
 pub within-more : (n : ℕ) (s : Source) → Within n s → Within (n + 1) s
 within-more n s so = omega arith
 
+-- one frame more
 within-next : (n : ℕ) (s : Source) → Within n s → (new flips : ℕ) → flips ≤ mostFlips → Within (n + 1) (nextOf s new flips)
 unfolding tallyOf
 within-next n s so new flips few = next-cases (Within (n + 1)) s new flips (λ repeats missed one some. omega arith)

@@ -20,15 +20,17 @@ use Rattle.sheet.specs.Records.{addOf, nextOf}
 use Rattle.sheet.specs.Sheets.{records, recordOf, HasCount, slotOf, sourceAt, refusalsAt, acceptOf, refuseOf, countedOf, heardOf, fullSheet, fullOf, offerOf}
 use Rattle.sheet.proofs.Growing.{mostFlips}
 
--- the sheet with one record or one count changed
+-- the sheet with one record changed
 pub accepts : (sheet : Sheet) (h : Header) (flips : ℕ) (changed : Source) → changed ≡ nextOf (sourceAt sheet (recordOf h)) (h .«fields» .«fr_cnt_tx») flips → record { sources = set (sheet .sources) (recordOf h) changed; refusals = sheet .refusals } ≡ acceptOf sheet h flips
 unfolding acceptOf
 accepts sheet h flips changed is = rw is
 
+-- the sheet with one count changed
 pub refuses : (sheet : Sheet) (number changed : ℕ) → changed ≡ addOf (refusalsAt sheet (slotOf number)) 1 → record { sources = sheet .sources; refusals = set (sheet .refusals) (slotOf number) changed } ≡ refuseOf sheet number
 unfolding refuseOf
 refuses sheet number changed is = rw is
 
+-- the test of the sum
 pub fills : (sheet : Sheet) (sum : ℕ) → sum ≡ heardOf sheet → leb fullSheet sum ≡ fullOf sheet
 fills sheet sum is = rw is
 
@@ -46,6 +48,7 @@ pub data Countable : Answer → Type 0 where
   recorded : {h : Header} {flips : ℕ} → recordOf h < records → flips ≤ mostFlips → Countable (Accepted h flips)
   numbered : {why : Refusal} → HasCount (why .number) → Countable (Refused why)
 
+-- every answer to a frame has
 pub frame-countable : (air payload : List ℕ) → Countable (frameOf air payload)
 frame-countable air payload = by (frameOf air payload) refl
   where
@@ -54,11 +57,12 @@ frame-countable air payload = by (frameOf air payload) refl
     by (Refused why) is = numbered (has-count air payload (Refused why) is why refl)
 
 module _ (sheet : Sheet) (full : Bool) (tested : full ≡ fullOf sheet) (air payload : List ℕ) where
+  -- a full sheet
   pub gives-17 : full ≡ true → record { answer = Refused (refusal 17 fullSheet); sheet = sheet } ≡ offerOf sheet air payload
   unfolding offerOf
   gives-17 taken = rw (← tested, taken)
 
-  -- r is the frame's answer, and a what it was found to be
+  -- any other: r is the frame's answer, and a what it was found to be
   pub takes : full ≡ false → (r a : Answer) → r ≡ frameOf air payload → r ≡ a → (after : Sheet) → after ≡ countedOf sheet a → record { answer = a; sheet = after } ≡ offerOf sheet air payload
   unfolding offerOf
   takes left r a is e after counted = rw (← tested, left, ← is, e, counted)

@@ -12,9 +12,11 @@ use lib.Seq.{getD-set-same, getD-set-other}
 use Rattle.base.specs.Lists.{sumTo}
 use Rattle.base.proofs.Sums.{sum-same, sum-more, sum-zero}
 
+-- nothing but zeros
 pub sum-zeros : (n : ℕ) (f : ℕ → ℕ) → ((k : ℕ) → f k ≡ 0) → sumTo n f ≡ 0
 sum-zeros n f none = sum-same n f (λ k. 0) (λ k h. none k) ∙ sum-zero n
 
+-- the last number apart
 sum-suc : (n : ℕ) (f : ℕ → ℕ) → sumTo (suc n) f ≡ sumTo n f + f n
 sum-suc n f = ap (λ (k : ℕ). sumTo k f) (sym (add-one n)) ∙ sym (sum-more n f (sumTo n f) (f n) refl refl)
 

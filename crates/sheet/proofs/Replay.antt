@@ -14,6 +14,7 @@ use Rattle.sheet.proofs.Offering.{frame-countable}
 use Rattle.sheet.proofs.Counted.{Grown, counted-own, counted-refusals}
 use Rattle.sheet.proofs.Running.{countAll, one-grown}
 
+-- a record is replayed by its own frames
 pub all-own : (k : ℕ) (fs : List Frame) (n : ℕ) (sheet : Sheet) → Grown n sheet → n + length fs ≤ fullSheet → sourceAt (countAll sheet fs) k ≡ replayFrom (sourceAt sheet k) (ownOf k fs)
 all-own k [] n sheet so room = refl
 all-own k (f ∷ fs) n sheet so room =
@@ -21,6 +22,7 @@ all-own k (f ∷ fs) n sheet so room =
     ∙ ap (λ (s : Source). replayFrom s (ownOf k fs)) (counted-own n sheet so k (answerOf f) (frame-countable (f .air) (f .payload)))
     ∙ sym (foldl-append (λ r x. nextOf r (x .counter) (x .flips)) (sourceAt sheet k) (ownIn k (answerOf f)) (ownOf k fs))
 
+-- a count grows by the frames with its number
 pub all-refused : (number : ℕ) → HasCount number → (fs : List Frame) (n : ℕ) (sheet : Sheet) → Grown n sheet → n + length fs ≤ fullSheet → refusalsAt (countAll sheet fs) (slotOf number) ≡ refusalsAt sheet (slotOf number) + refusedWith number fs
 all-refused number known [] n sheet so room = omega arith
 all-refused number known (f ∷ fs) n sheet so room =

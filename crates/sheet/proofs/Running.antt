@@ -17,12 +17,13 @@ use Rattle.sheet.proofs.Refusals.{room-takes, full-refuses}
 use Rattle.sheet.proofs.Counted.{Grown, counted-grown}
 use Rattle.sheet.proofs.OneMore.{sum-zeros}
 
--- a new sheet: nothing is counted
+-- a list of one value, read anywhere
 read-replicated : {A : Type 0} (n k : ℕ) (a : A) → getD (replicate n a) k a ≡ a
 read-replicated {A} zero k a = refl
 read-replicated {A} (suc n) zero a = refl
 read-replicated {A} (suc n) (suc k) a = read-replicated n k a
 
+-- a new sheet has heard no source and counted no refusal
 pub new-silent : (k : ℕ) → sourceAt newSheet k ≡ silent
 new-silent k = read-replicated records k silent
 
@@ -46,9 +47,11 @@ abbrev pub countAll : Sheet → List Frame → Sheet
 countAll sheet [] = sheet
 countAll sheet (f ∷ fs) = countAll (countedOf sheet (answerOf f)) fs
 
+-- it has taken one frame more after each
 pub one-grown : (n : ℕ) (sheet : Sheet) → Grown n sheet → n < fullSheet → (f : Frame) → Grown (n + 1) (countedOf sheet (answerOf f))
 one-grown n sheet so room f = counted-grown n sheet so room (answerOf f) (frame-countable (f .air) (f .payload))
 
+-- and as many as there are after all
 all-grown : (fs : List Frame) (n : ℕ) (sheet : Sheet) → Grown n sheet → n + length fs ≤ fullSheet → Grown (n + length fs) (countAll sheet fs)
 all-grown [] n sheet so room = let same : n + 0 ≡ n = omega arith in rw same so
 all-grown (f ∷ fs) n sheet so room =
@@ -74,9 +77,11 @@ run-takes (f ∷ fs) (suc m) n sheet e so =
 pub history-taken : (history : List Frame) → sheetOf history ≡ countAll newSheet (takenFrom history)
 history-taken history = run-takes history fullSheet 0 newSheet refl new-grown
 
+-- which are no more than 65,535
 pub history-few : (history : List Frame) → 0 + length (takenFrom history) ≤ fullSheet
 history-few history = omega (arith, length-take fullSheet history)
 
+-- so it has taken as many as there are, or 65,535
 pub history-grown : (history : List Frame) → Grown (min fullSheet (length history)) (sheetOf history)
 history-grown history =
     rw (history-taken history, ← length-take fullSheet history, ← zero-add (length (takenFrom history)))

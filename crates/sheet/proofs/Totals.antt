@@ -16,6 +16,7 @@ module _ (n : ℕ) (f : ℕ → ℕ) where
     pub small : sum ≤ k * countLimit
     pub is : sum ≡ sumTo k f
 
+  -- nothing is summed
   pub sum-starts : Summed 0 0
   sum-starts = record { inside = zero-le; small = zero-le; is = sym (sum-none f) }
 
@@ -24,11 +25,14 @@ module _ (n : ℕ) (f : ℕ → ℕ) where
     pub sum-fits : n ≤ countLimit → k < n → (x : ℕ) → Fits w32 x → Fits w64 (sum + x)
     sum-fits few h x b = record { fits = omega (arith, so .small) }
 
+    -- a count more
     pub sum-goes-on : k < n → (x : ℕ) → Fits w32 x → x ≡ f k → Summed (k + 1) (sum + x)
     sum-goes-on h x b e = record { inside = omega arith; small = omega (arith, so .small); is = sum-more k f sum x (so .is) e }
 
+    -- all n are summed
     pub sum-ends : n ≤ k → sum ≡ sumTo n f
     sum-ends h = let all : k ≡ n = omega (arith, so .inside) in rw all at (so .is)
 
+    -- how large the sum can be
     pub sum-small : sum ≤ n * countLimit
     sum-small = omega (arith, so .inside, so .small)

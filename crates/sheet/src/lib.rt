@@ -1,5 +1,6 @@
 // The pass sheet: a record for each source, and a count for each of the refusals 1 to 8. A new sheet is the only reset.
 use base::Refusal;
+use base::SHEET_FULL;
 use header::Answer;
 use header::Header;
 ghost use mathlib.Core.Path.{_≡_};
@@ -176,7 +177,7 @@ pub fn offer_in(table: &[u16; 1024], sheet: Sheet, header: &[u8], payload: &[u8]
 {
     if full(sheet) {
         let answer = Answer::Refused(Refusal {
-            number: 17,
+            number: SHEET_FULL,
             place: FULL as usize,
         });
         return Offered { answer, sheet };

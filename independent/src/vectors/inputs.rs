@@ -1,6 +1,6 @@
 //! The inputs of each kind.
 
-use super::Kind;
+use super::{stored, Kind};
 use crate::air::{AIR_BITS, WORDS};
 use crate::header::{largest, Field, Header, FIELDS, GIVEN, HEADER_BITS, LONGEST_PAYLOAD, WIDTHS};
 use crate::page::{EPS_ROWS, ROWS};
@@ -35,11 +35,12 @@ pub(super) fn inputs(kind: Kind, seed: u64) -> Vec<Vec<u8>> {
         Kind::Rows => row_inputs(rng),
         Kind::Shown => shown_inputs(rng),
         Kind::Sheets => sheet_inputs(rng),
+        Kind::Stored => stored::inputs(seed),
     }
 }
 
 /// The length in two bytes, then the bytes, then zeros up to so many bytes.
-fn sized(bytes: &[u8], room: usize) -> Vec<u8> {
+pub(super) fn sized(bytes: &[u8], room: usize) -> Vec<u8> {
     let mut record = (bytes.len() as u16).to_be_bytes().to_vec();
     record.extend(bytes);
     record.resize(2 + room, 0);
@@ -117,7 +118,7 @@ fn crc5_inputs(rng: &mut Rng) -> Vec<Vec<u8>> {
 }
 
 /// A header in range with the payload's length and checksum, and a right CRC5.
-fn fresh_header(rng: &mut Rng, payload: &[u8]) -> Header {
+pub(super) fn fresh_header(rng: &mut Rng, payload: &[u8]) -> Header {
     let mut header = Header::default();
     for field in 0..GIVEN {
         header.values[field] = rng.within(0..=u32::from(largest(field))) as u16;

@@ -3,7 +3,7 @@
 use std::fmt::Write;
 
 use super::inputs::{PayloadRule, CRC13_ROOM, HEADER_ROOM, PAGE_ROOM};
-use super::Kind;
+use super::{Kind, KINDS};
 use crate::air::AIR_BITS;
 use crate::crc::crc13;
 use crate::frame::read_frame;
@@ -51,6 +51,10 @@ pub(super) fn line(kind: Kind, input: &[u8]) -> String {
         Kind::Rows => rows_line(&mut input),
         Kind::Shown => shown_line(&mut input),
         Kind::Sheets => sheet_line(&mut input),
+        Kind::Stored => {
+            let (_, kind) = KINDS[usize::from(input.u8())];
+            line(kind, input.0)
+        }
     }
 }
 

@@ -19,6 +19,7 @@
 //! | `rows` | rows 0 to 16 two bytes each, room 2 | 36 | `written OUT` or `refused NUMBER PLACE OUT` |
 //! | `shown` | c0 8, c1 8, S 2, x 2 | 20 | `VALUE` or `refused NUMBER PLACE` |
 //! | `sheets` | sheet 176, header 210, payload rule 4 | 390 | answer as `headers`, then the sheet |
+//! | `stored` | kind 1, then a record of that kind | 1 more | as that kind |
 //!
 //! - *Payload rule*: length 2, start 1, step 1. Byte k of the payload is (start + step * k) mod 256.
 //! - *n of so many*: the bytes past the first n are 0 and mean nothing.
@@ -38,9 +39,16 @@
 //!   or 1), last 1 (0 where not heard), then eight counts of 4 for refusals 1 to 8. The frame is offered
 //!   to it, and the line goes on with `ACCEPTED REPAIRED MISSED REPEATS LAST` for each source, `-` for
 //!   no last, and the eight counts.
+//! - `stored`: records of every kind in one stream, few enough to be kept in a repository. The kind is
+//!   the row of the table above, from 0: 0 `words`, 1 `encode`, 2 `crc13`, 3 `crc5`, 4 `headers`,
+//!   5 `writes`, 6 `frames`, 7 `pages`, 8 `rows`, 9 `shown`, 10 `sheets`. Which records there are is
+//!   said in `stored.rs`.
+//! - *Limits of what is there*: rooms are at most 256 in `writes` and 64 in `rows`, payload rules at
+//!   most 2,047 bytes long.
 
 mod inputs;
 mod lines;
+mod stored;
 
 use std::io::{self, Write};
 
@@ -59,10 +67,11 @@ pub enum Kind {
     Rows,
     Shown,
     Sheets,
+    Stored,
 }
 
-/// All kinds with their names.
-pub const KINDS: [(&str, Kind); 11] = [
+/// All kinds with their names, in the order that numbers them in `stored`.
+pub const KINDS: [(&str, Kind); 12] = [
     ("words", Kind::Words),
     ("encode", Kind::Encode),
     ("crc13", Kind::Crc13),
@@ -74,6 +83,7 @@ pub const KINDS: [(&str, Kind); 11] = [
     ("rows", Kind::Rows),
     ("shown", Kind::Shown),
     ("sheets", Kind::Sheets),
+    ("stored", Kind::Stored),
 ];
 
 /// The seed where none is named.

@@ -1,0 +1,144 @@
+//! The inputs of `stored`: a part of the inputs of every other kind.
+//!
+//! One input in so many is taken, and besides those at a limit of their kind and those that are the
+//! first with their refusal and place. So every refusal of the other streams is there, and the whole is
+//! small enough to be kept in a repository. Headers with damage in one word alone are added: the stream
+//! of `headers` has hardly any with one or two flips in all.
+
+use std::collections::{BTreeMap, BTreeSet};
+
+use super::inputs::{self, fresh_header, sized, HEADER_ROOM};
+use super::lines::line;
+use super::Kind;
+use crate::air::WORDS;
+use crate::header::LONGEST_PAYLOAD;
+use crate::rng::Rng;
+use crate::sample::flip_some;
+
+/// How much of a kind is taken.
+struct Share {
+    /// One input of so many. It has no factor in common with the number of inputs that a round of the
+    /// kind makes, so that each sort of a round comes up.
+    every: usize,
+    /// At most so many places of each refusal are taken for being new.
+    places: usize,
+}
+
+/// The shares of the kinds, in the order that numbers them: all but `stored` itself.
+const SHARES: [(Kind, Share); 11] = [
+    (Kind::Words, one_of(1, 0)),
+    (Kind::Encode, one_of(1, 0)),
+    (Kind::Crc13, one_of(7, 0)),
+    (Kind::Crc5, one_of(5, 0)),
+    (Kind::Headers, one_of(5, 128)),
+    (Kind::Writes, one_of(5, 16)),
+    (Kind::Frames, one_of(5, 16)),
+    (Kind::Pages, one_of(13, 8)),
+    (Kind::Rows, one_of(3, 34)),
+    (Kind::Shown, one_of(41, 1)),
+    (Kind::Sheets, one_of(5, 8)),
+];
+
+const fn one_of(every: usize, places: usize) -> Share {
+    Share { every, places }
+}
+
+/// The stored inputs, each behind the byte of its kind.
+pub(super) fn inputs(seed: u64) -> Vec<Vec<u8>> {
+    let mut stored = Vec::new();
+    for (number, (kind, share)) in (0..).zip(SHARES) {
+        let mut inputs = taken(kind, share, inputs::inputs(kind, seed));
+        if kind == Kind::Headers {
+            inputs.extend(one_word_damaged(&mut Rng::new(seed)));
+        }
+        for input in inputs {
+            stored.push([vec![number], input].concat());
+        }
+    }
+    stored
+}
+
+/// Headers with 0 to 4 flips in one word, for each word.
+fn one_word_damaged(rng: &mut Rng) -> Vec<Vec<u8>> {
+    let mut inputs = Vec::new();
+    for word in 0..WORDS {
+        for flips in 0..=4 {
+            let mut air = fresh_header(rng, &[]).to_air();
+            flip_some(rng, &mut air, word, flips);
+            inputs.push(sized(&air, HEADER_ROOM));
+        }
+    }
+    inputs
+}
+
+/// What is taken of the inputs of a kind, in their order.
+fn taken(kind: Kind, share: Share, mut inputs: Vec<Vec<u8>>) -> Vec<Vec<u8>> {
+    let mut told = Told::default();
+    let mut number = 0;
+    inputs.retain(|input| {
+        let turn = number % share.every == 0;
+        number += 1;
+        let new = told.is_new(&line(kind, input), share.places);
+        turn || new || is_limit(kind, input)
+    });
+    inputs
+}
+
+/// The places that were told, for each number of a refusal.
+#[derive(Default)]
+struct Told(BTreeMap<String, BTreeSet<String>>);
+
+impl Told {
+    /// Whether a line tells of a refusal at a place that was not told yet, among the first so many.
+    fn is_new(&mut self, line: &str, most: usize) -> bool {
+        let mut words = line.split(' ').map(String::from);
+        match (words.next().as_deref(), words.next(), words.next()) {
+            (Some("refused"), Some(number), Some(place)) => {
+                let places = self.0.entry(number).or_default();
+                places.len() < most && places.insert(place)
+            }
+            _ => false,
+        }
+    }
+}
+
+/// Whether an input stands at a limit of its kind.
+fn is_limit(kind: Kind, input: &[u8]) -> bool {
+    let two = |at: usize| u16::from_be_bytes([input[at], input[at + 1]]);
+    let longest = LONGEST_PAYLOAD as u16;
+    match kind {
+        Kind::Crc13 => [0, 1, 2, 1_022, longest, longest + 1, 2_047].contains(&two(0)),
+        // No bit, one bit, all bits, all but one.
+        Kind::Crc5 => [0, 1, 64, 65].contains(&input.iter().filter(|&&bit| bit == 1).count()),
+        // The writer's payload lengths; 62 is that of fields at and over their limits.
+        Kind::Writes => [0, 62, longest, longest + 1].contains(&two(16)),
+        Kind::Frames => [0, longest, longest + 1].contains(&two(258)),
+        // Around 8 and 12 bytes, 34 user bytes without and with a time tag, the longest payload, the
+        // most user bytes without and with a time tag.
+        Kind::Pages => {
+            let lengths = [
+                0, 7, 8, 11, 12, 41, 42, 45, 46, 1_023, 1_024, 1_031, 1_032, 1_035, 1_036,
+            ];
+            lengths.contains(&two(0))
+        }
+        Kind::Rows => [33, 34, 35].contains(&two(34)),
+        Kind::Shown => {
+            let coefficient = |at: usize| f64::from_bits(bits(&input[at..at + 8]));
+            let (c0, c1) = (coefficient(0), coefficient(8));
+            let plain = c0.to_bits() == 0 && c1 == 1.0;
+            // Zero, subnormal, infinite, no number; spreads at and past their limits.
+            (!c0.is_normal() && !plain)
+                || !c1.is_normal()
+                || [0, 32_766, 32_767, 32_768, 32_769, 65_535].contains(&two(16))
+                || (two(16) == 1 && [0, 1, 0x7FFF, 0x8000, 0xFFFF].contains(&two(18)))
+        }
+        _ => false,
+    }
+}
+
+/// Eight bytes as one number.
+fn bits(bytes: &[u8]) -> u64 {
+    bytes
+        .iter()
+        .fold(0, |number, &byte| number << 8 | u64::from(byte))
+}
