@@ -1,0 +1,3 @@
+// For the program `vectors`: the lines of pages and shown values.
+pub mod pages;
+pub mod shown;
