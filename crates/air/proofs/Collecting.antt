@@ -1,6 +1,6 @@
 -- The loop that gathers one word, position by position.
 -- Assumes nothing.
-use mathlib.Core.Path.{_≡_, refl}
+use mathlib.Core.Path.{_≡_, refl, sym}
 use mathlib.Core.List.{List}
 use Prim.Native.Nat.{ℕ, _+_, _*_, _^_, _<_, _≤_, zero-le}
 use native.Mathlib.Nat.{pow-suc}
@@ -11,7 +11,7 @@ use mir.Syntax.{w16}
 use mir.Val.{Fits}
 use lib.Pow.{pow-mono}
 use Rattle.base.specs.Lists.{sumTo, AreBits}
-use Rattle.base.proofs.Sums.{sum-more, bit-times, made-lt}
+use Rattle.base.proofs.Sums.{sum-none, sum-more, bit-times, made-lt}
 use Rattle.air.specs.Air.{wordCount, positions, wordAt}
 
 -- what position i adds to word j
@@ -25,8 +25,7 @@ pub record Collected (air : List ℕ) (j i weight word : ℕ) : Type 0 where
   pub is : word ≡ sumTo i (adds air j)
 
 pub collect-starts : (air : List ℕ) (j : ℕ) → Collected air j 0 1 0
-unfolding sumTo
-collect-starts air j = record { inside = zero-le; heavy = refl; is = refl }
+collect-starts air j = record { inside = zero-le; heavy = refl; is = sym (sum-none (adds air j)) }
 
 pub bit-fits : (air : List ℕ) (k : ℕ) → AreBits air → Fits w16 (getD air k 0)
 bit-fits air k bits = record { fits = omega (arith, bits k) }

@@ -13,7 +13,7 @@ use borrow.Author.Tests.{lt-ltb, le-ltb}
 use Rattle.base.specs.Lists.{tabulate, sumTo, lowest}
 use Rattle.base.proofs.Lowest.{Passed, starts, goes-on, stops, ends}
 use Rattle.base.proofs.Fill.{Filled, fill-starts, fill-goes-on, fill-whole}
-use Rattle.base.proofs.Sums.{sum-more, sum-le}
+use Rattle.base.proofs.Sums.{sum-none, sum-more, sum-le}
 use Rattle.word.specs.declared.Repaired.{Repaired}
 use Rattle.word.specs.declared.Repaired.the-variants.{Word, Beyond}
 use Rattle.word.specs.Repairs.{isBeyond, wordOf, flipsOf}
@@ -38,11 +38,10 @@ module _ (words : List ℕ) where
     pub counted : total ≡ sumTo j flipsAt
 
   pub mend-starts : Mending 0 (replicate wordCount 0) 0
-  unfolding sumTo
   mend-starts = record {
     passed = starts wordCount beyondAt;
     filled = fill-starts wordRepaired wordCount (replicate wordCount 0) (le-refl wordCount);
-    counted = refl;
+    counted = sym (sum-none flipsAt);
   }
 
   module _ (j : ℕ) (repaired : List ℕ) (total : ℕ) (so : Mending j repaired total) where

@@ -13,6 +13,11 @@ use Rattle.base.proofs.Sums.{sum-same, sum-bits, made-lt, made-at}
 use Rattle.word.specs.Words.{wordLimit}
 use Rattle.air.specs.Air.{wordCount, positions, airBits, wordAt, wordsOf, airBit, airOf}
 
+-- the words, one by one
+pub words-at : (air : List ℕ) (j : ℕ) → j < wordCount → getD (wordsOf air) j 0 ≡ wordAt air j
+unfolding wordsOf
+words-at air j h = tabulate-at (wordAt air) 0 wordCount j h
+
 -- position i of word j is air bit 14 i + j, and a word has fifteen positions
 module _ (air : List ℕ) (bits : AreBits air) where
   pub word-at : (i j : ℕ) → i < positions → wordAt air j / 2 ^ i % 2 ≡ getD air (wordCount * i + j) 0

@@ -1,8 +1,9 @@
 -- Flips on the way: the places in which two headers on air differ.
 -- Assumes nothing.
-use mathlib.Core.Bool.{Bool, not}
+use mathlib.Core.Path.{_≡_}
+use mathlib.Core.Bool.{Bool, true, not}
 use mathlib.Core.List.{List}
-use Prim.Native.Nat.{ℕ, _+_, _*_}
+use Prim.Native.Nat.{ℕ, _+_, _*_, _<_, _≤_}
 use lib.Dec.{eqb}
 use lib.ListN.{getD}
 use Rattle.base.specs.Lists.{howMany}
@@ -18,3 +19,7 @@ flipsBetween x y = howMany airBits (differsAt x y)
 -- in how many places of word j
 unfoldable pub flipsInWord : List ℕ → List ℕ → ℕ → ℕ
 flipsInWord x y j = howMany positions (λ i. differsAt x y (wordCount * i + j))
+
+-- "a burst of up to 42 neighbouring bits": the two differ only in the 42 places from `start` on
+abbrev pub Burst : ℕ → List ℕ → List ℕ → Type 0
+Burst start x y = (n : ℕ) → n < airBits → differsAt x y n ≡ true → (start ≤ n) × (n < start + 42)

@@ -9,5 +9,7 @@ pub mod Xor
 pub mod Ones
 pub mod Bits
 pub mod Sums
+pub mod OneMore
 pub mod Doubles
+pub mod Windows
 pub mod Joined

@@ -25,6 +25,10 @@ pub data Given {A : Type 0} : List (Check A) → A → Type 0 where
   here : {k : Check A} {ks : List (Check A)} → k .applies ≡ true → Given (k ∷ ks) (k .gives)
   later : {k : Check A} {ks : List (Check A)} {a : A} → k .applies ≡ false → Given ks a → Given (k ∷ ks) a
 
+-- an answer is given exactly when its row applies and no row before it does
+abbrev pub Exactly : {A : Type 0} → A → A → List (Check A) → Type 0
+Exactly answer a rows = (answer ≡ a → Given rows a) × (Given rows a → answer ≡ a)
+
 -- "A refusal carries number and place only."
 abbrev pub refusal : ℕ → ℕ → Refusal
 refusal number place = record { number = number; place = place }

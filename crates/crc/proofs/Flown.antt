@@ -19,19 +19,19 @@ module _ (n k : ℕ) where
 
   -- header bits 0 to 31, and from 36 on
   before : k < 32 → headerBit (countedFlown n) k ≡ headerBit n k
-  unfolding countedFlown headerBit
+  unfolding countedFlown
   before h =
       let e : 69 - k ≡ 38 + (31 - k) = omega arith in
       rw e (ap (λ (x : ℕ). x % 2) (shift-above (n / 2 ^ 38) 38 (n % 2 ^ 34) low-lt (31 - k) ∙ shr-shr n 38 (31 - k)))
 
   after : 36 ≤ k → headerBit (countedFlown n) k ≡ headerBit n k
-  unfolding countedFlown headerBit
+  unfolding countedFlown
   after h =
       bit-below (n / 2 ^ 38) 38 (n % 2 ^ 34) low-lt (69 - k) (omega arith) ∙ bit-of-low n 34 (69 - k) (omega arith)
 
   -- header bits 32 to 35 count as zero
   pub flown-lost : 32 ≤ k → k < 36 → headerBit (countedFlown n) k ≡ 0
-  unfolding countedFlown headerBit
+  unfolding countedFlown
   flown-lost h l =
       let e : 69 - k ≡ 34 + (35 - k) = omega arith in
       bit-below (n / 2 ^ 38) 38 (n % 2 ^ 34) low-lt (69 - k) (omega arith)

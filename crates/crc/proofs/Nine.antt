@@ -31,7 +31,6 @@ byte-bit n i t hi ht =
 
 -- header bits 0 to 64 are those of the upper 65 bits
 pub header-above : (n k : ℕ) → k < 65 → headerBit n k ≡ n / 2 ^ 5 / 2 ^ (64 - k) % 2
-unfolding headerBit
 header-above n k h = let e : 69 - k ≡ 5 + (64 - k) = omega arith in rw (e, shr-shr)
 
 -- the first 65 bits of the message are header bits

@@ -6,7 +6,7 @@ use Rattle.base.specs.Lists.{tabulate}
 use Rattle.crc.specs.Crc.{crcOf, bitsOfBytes}
 
 -- header bit k
-unfoldable pub headerBit : ℕ → ℕ → ℕ
+abbrev pub headerBit : ℕ → ℕ → ℕ
 headerBit n k = n / 2 ^ (69 - k) % 2
 
 -- "CRC5: polynomial 0x15 (x^5 implied), start 0x1F, no final change."

@@ -6,7 +6,7 @@ use mathlib.Core.List.{List, []}
 use Prim.Native.Nat.{ℕ, _<_, _≤_}
 use lib.Count.{onesIn}
 use lib.Dec.{leb, eqb}
-use lib.ListN.{length, getD}
+use lib.ListN.{length, getD, take}
 use Rattle.base.specs.Checks.{refusal}
 use Rattle.base.specs.Lists.{AreBits, howMany}
 use Rattle.word.specs.Words.{wordLimit}
@@ -14,16 +14,16 @@ use Rattle.word.specs.Repairs.{repairOf, remainderOf, syndromes, rowOf, byRow, 
 use Rattle.word.proofs.Rows.{rows-with-pattern, rows-marked}
 use Rattle.word.proofs.Answer.{table-answers}
 use Rattle.air.specs.Air.{wordCount, airBits}
-use Rattle.air.specs.Flips.{flipsBetween, flipsInWord}
-use Rattle.air.proofs.Bursts.{Burst}
+use Rattle.air.specs.Flips.{flipsBetween, flipsInWord, Burst}
 use Rattle.header.specs.declared.Fields.{Fields}
 use Rattle.header.specs.declared.Answer.the-variants.{Accepted, Refused}
-use Rattle.header.specs.Fields.{fieldCount, valuesOf}
-use Rattle.header.specs.Writing.{firstOver, payloadLimit, airFor}
-use Rattle.header.proofs.RoundTrip.{headerFor}
+use Rattle.header.specs.declared.Written.the-variants.{Done}
+use Rattle.header.specs.Writing.{headerFor, HeaderWritten}
+use Rattle.header.proofs.WrittenAir.{Taken, taken}
 use Rattle.frame.specs.Frames.{frameOf}
-use Rattle.frame.proofs.Demand3.{restored-frame, restored-burst}
-use Rattle.frame.proofs.Limit.{sent, burst, burst-of-43}
+use Rattle.frame.specs.Zeros.{sentZeros, burstZeros}
+use Rattle.frame.proofs.Damage.{restored-frame, restored-burst}
+use Rattle.frame.proofs.Limit.{burst-of-43}
 
 -- "The repair table .. equals trying all 32 valid words on each of the 32,768 words": `repairOf` tries the words, `byRow` takes the row
 pub table-equals-search : (w : ℕ) → w < wordLimit → repairOf w ≡ byRow w (getD syndromes (remainderOf w) 0)
@@ -33,27 +33,22 @@ table-equals-search = table-answers
 pub table-rows : (howMany 1024 (λ r. leb (onesIn 15 (rowOf r)) 3) ≡ 576) × (howMany 1024 (λ r. eqb (rowOf r) mark) ≡ 448)
 table-rows = (rows-with-pattern, rows-marked)
 
--- a header that the writer takes
-pub record Writable (f : Fields) (payload : List ℕ) : Type 0 where
-  pub ranges : fieldCount ≤ firstOver (valuesOf f)
-  pub short : length payload ≤ payloadLimit
+-- the writer was handed some fields, a payload and an output, and wrote; on the way some of the 210 bits were flipped
+module _ (f : Fields) (payload before after : List ℕ) (written : HeaderWritten f payload before Done after)
+    (air : List ℕ) (long : length air ≡ airBits) (bits : AreBits air) where
+  so : Taken f payload after
+  so = taken f payload before after written
 
--- 210 elements, each 0 or 1
-pub record Air (air : List ℕ) : Type 0 where
-  pub long : length air ≡ airBits
-  pub bits : AreBits air
-
-module _ (f : Fields) (payload air : List ℕ) (ok : Writable f payload) (on-air : Air air) where
   -- "a written header with at most three flips in each word .. reads back as that very header with the exact number of flips"
-  pub three-in-each-word : ((j : ℕ) → j < wordCount → flipsInWord air (airFor f payload) j ≤ 3)
-      → frameOf air payload ≡ Accepted (headerFor f payload) (flipsBetween air (airFor f payload))
-  three-in-each-word = restored-frame f payload air (on-air .bits) (ok .ranges) (ok .short) (on-air .long)
+  pub three-in-each-word : ((j : ℕ) → j < wordCount → flipsInWord air (take airBits after) j ≤ 3)
+      → frameOf air payload ≡ Accepted (headerFor f payload) (flipsBetween air (take airBits after))
+  three-in-each-word = rw (so .air) (restored-frame f payload air bits (so .ranges) (so .short) long)
 
   -- "or a burst of up to 42 neighbouring bits"
-  pub burst-of-42 : (start : ℕ) → Burst start air (airFor f payload)
-      → frameOf air payload ≡ Accepted (headerFor f payload) (flipsBetween air (airFor f payload))
-  burst-of-42 = restored-burst f payload air (on-air .bits) (ok .ranges) (ok .short) (on-air .long)
+  pub burst-of-42 : (start : ℕ) → Burst start air (take airBits after)
+      → frameOf air payload ≡ Accepted (headerFor f payload) (flipsBetween air (take airBits after))
+  burst-of-42 = rw (so .air) (restored-burst f payload air bits (so .ranges) (so .short) long)
 
 -- 42 is the limit: a header of zeros whose first 43 bits are flipped is refused
-pub not-43 : (flipsBetween (burst 43) sent ≡ 43) × (flipsInWord (burst 43) sent 0 ≡ 4) × (frameOf (burst 43) [] ≡ Refused (refusal 3 0))
+pub not-43 : (flipsBetween (burstZeros 43) sentZeros ≡ 43) × (flipsInWord (burstZeros 43) sentZeros 0 ≡ 4) × (frameOf (burstZeros 43) [] ≡ Refused (refusal 3 0))
 not-43 = burst-of-43

@@ -1,4 +1,5 @@
--- "Show by proof that any two answers allowed by it coincide": one theorem for each outside function, over its contract as it stands.
+-- "Show by proof that any two answers allowed by it coincide": one theorem for each outside function. Each premise
+-- is the function's `ensures`, word for word.
 -- Assumes nothing.
 use mathlib.Core.Path.{_≡_, sym, ap, _∙_}
 use mathlib.Core.Bool.{Bool}
@@ -6,8 +7,9 @@ use mathlib.Core.List.{List}
 use Prim.Native.Nat.{ℕ}
 use lib.IntN.{ℤ}
 use Rattle.word.specs.declared.Repaired.{Repaired}
-use Rattle.word.specs.Repairs.{repairOf}
+use Rattle.word.specs.Repairs.{repairOf, syndromes}
 use Rattle.crc.specs.Crc.{crc13Of}
+use Rattle.air.specs.Air.{firstNoBit}
 use Rattle.header.specs.declared.Fields.{Fields}
 use Rattle.header.specs.declared.Answer.{Answer}
 use Rattle.header.specs.declared.Written.{Written}
@@ -20,6 +22,8 @@ use Rattle.sheet.specs.declared.Sheet.{Sheet}
 use Rattle.sheet.specs.declared.Offered.{Offered}
 use Rattle.sheet.specs.Records.{nextOf}
 use Rattle.sheet.specs.Sheets.{newSheet, acceptedOf, refusedOf, heardOf, fullOf, offerOf}
+use Rattle.listing.specs.declared.Cut.{Cut}
+use Rattle.listing.specs.Records.{cutOf}
 use Rattle.page.specs.declared.PageAnswer.{PageAnswer}
 use Rattle.page.specs.declared.WriteAnswer.{WriteAnswer}
 use Rattle.page.specs.declared.scaling.Scaling.{Scaling}
@@ -37,6 +41,12 @@ search-one w r s = one
 
 pub repair-one : (w : ℕ) (r s : Repaired) → r ≡ repairOf w → s ≡ repairOf w → r ≡ s
 repair-one w r s = one
+
+pub whole-one : (r s : List ℕ) → r ≡ syndromes → s ≡ syndromes → r ≡ s
+whole-one r s = one
+
+pub first-no-bit-one : (l : List ℕ) (r s : ℕ) → r ≡ firstNoBit l → s ≡ firstNoBit l → r ≡ s
+first-no-bit-one l r s = one
 
 pub crc13-one : (payload : List ℕ) (r s : ℕ) → r ≡ crc13Of payload → s ≡ crc13Of payload → r ≡ s
 crc13-one payload r s = one
@@ -93,3 +103,6 @@ full-one sheet r s = one
 
 pub next-one : (source : Source) (counter flips : ℕ) (r s : Source) → r ≡ nextOf source counter flips → s ≡ nextOf source counter flips → r ≡ s
 next-one source counter flips r s = one
+
+pub next-record-one : (rest : List ℕ) (r s : Cut) → r ≡ cutOf rest → s ≡ cutOf rest → r ≡ s
+next-record-one rest r s = one

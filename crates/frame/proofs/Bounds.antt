@@ -1,8 +1,8 @@
--- What an answer to a frame keeps within: the source, the frame counter and the flips of an accepted one, the number of a refusal.
+-- What an answer to a frame keeps within: the source and the flips of an accepted one, the number of a refusal.
 -- Assumes nothing.
 use mathlib.Core.Path.{_≡_, subst}
 use mathlib.Core.List.{List}
-use Prim.Native.Nat.{ℕ, _≤_, _<_}
+use Prim.Native.Nat.{ℕ, _≤_}
 use lib.Dec.{lit≤}
 use lib.ListN.{getD}
 use Rattle.base.specs.declared.Refusal.{Refusal}
@@ -13,20 +13,13 @@ use Rattle.air.specs.Air.{wordCount, wordAt}
 use Rattle.header.specs.declared.Header.{Header}
 use Rattle.header.specs.declared.Answer.{Answer}
 use Rattle.header.specs.declared.Answer.the-variants.{Accepted, Refused}
-use Rattle.header.specs.Fields.{bitsOfWords}
 use Rattle.header.proofs.GoesOn.{accepted}
-use Rattle.header.proofs.Unpacking.{counter-lt}
 use Rattle.frame.specs.Frames.{frameChecks, frameOf}
-use Rattle.frame.proofs.Demand2.{reader-then-rules}
+use Rattle.frame.proofs.Rules.{reader-then-rules}
 
 module _ (air payload : List ℕ) (h : Header) (k : ℕ) (e : frameOf air payload ≡ Accepted h k) where
   pub frame-source : h .«fields» .«src_id» ≤ 7
   frame-source = reader-then-rules air payload h k e .known-source
-
-  pub frame-counter : h .«fields» .«fr_cnt_tx» < 16
-  frame-counter =
-      let so = reader-then-rules air payload h k e in
-      rw (so .made) (counter-lt (bitsOfWords (so .words)))
 
   -- three flips in each of fourteen words
   pub frame-flips : k ≤ 42

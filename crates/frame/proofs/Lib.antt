@@ -1,5 +1,6 @@
 pub mod Payloads
-pub mod Demand2
+pub mod Rules
 pub mod Bounds
-pub mod Demand3
+pub mod Damage
+pub mod Writing
 pub mod Limit

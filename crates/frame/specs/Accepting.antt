@@ -11,7 +11,7 @@ use Rattle.crc.specs.Crc.{crc13Of}
 use Rattle.crc.specs.Crc5.{crc5Of}
 use Rattle.air.specs.Air.{wordCount, airBits, wordAt}
 use Rattle.header.specs.declared.Header.{Header}
-use Rattle.header.specs.Fields.{headerOf, bitsOfWords}
+use Rattle.header.specs.Fields.{lastSource, lastCoding, headerOf, bitsOfWords}
 
 pub record Accepts (air payload : List ℕ) (header : Header) (flips : ℕ) : Type 0 where
   -- "The header arrives as 210 bytes, each 0 or 1."
@@ -26,8 +26,8 @@ pub record Accepts (air payload : List ℕ) (header : Header) (flips : ℕ) : Ty
   pub made : header ≡ headerOf (bitsOfWords words)
   -- the checks of the paper's table, 4 to 8, do not apply
   pub same-crc5 : crc5Of (bitsOfWords words) ≡ header .«crc5»
-  pub known-source : header .«fields» .«src_id» ≤ 7
-  pub known-coding : header .«fields» .«ai_type_src» ≤ 3
+  pub known-source : header .«fields» .«src_id» ≤ lastSource
+  pub known-coding : header .«fields» .«ai_type_src» ≤ lastCoding
   pub same-length : length payload ≡ header .«pdu_length»
   pub same-crc13 : crc13Of payload ≡ header .«crc13»
   -- the flips are the places in which the words differ from those that they became

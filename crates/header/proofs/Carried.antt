@@ -5,26 +5,21 @@ use mathlib.Core.List.{List, map}
 use Prim.Native.Nat.{ℕ, _%_, _^_, _<_, _≤_}
 use native.Mathlib.Nat.{mod-eq-of-lt, zero-add}
 use lib.Dec.{lit<}
-use lib.ListN.{length, getD, length-map, List·getD-map, List·getD-eq-default}
+use lib.ListN.{getD, length-map, List·getD-map, List·getD-eq-default}
 use lib.Seq.{ext-getD}
 use mathlib.Core.Logic.{⊎-elim}
 use Rattle.base.proofs.Tests.{lt-or-ge}
 use Rattle.base.specs.Parts.{partsOf, joined, InWidths}
 use Rattle.base.proofs.Tabulate.{tabulate-length, tabulate-is}
-use Rattle.base.proofs.Joined.{parts-join, join-parts, parts-length}
-use Rattle.word.specs.Words.{Valid, dataOf, encodeOf}
+use Rattle.base.proofs.Joined.{parts-join, join-parts, join-lt, parts-length}
+use Rattle.word.specs.Words.{dataOf, encodeOf}
 use Rattle.word.proofs.Multiples.{encode-data}
 use Rattle.word.proofs.Valids.{valid-lt, valid-encode, encode-valid}
 use Rattle.air.specs.Air.{wordCount}
-use Rattle.header.specs.Fields.{dataWidths, bitsOfWords, dataAt, codedOf}
+use Rattle.header.specs.Fields.{dataWidths, bitsOfWords, dataAt, codedOf, ValidWords}
 use Rattle.header.proofs.WordData.{data-within, AreWords}
 use Rattle.header.proofs.Coding.{data-lt}
 use Rattle.header.proofs.Places.{coded-at}
-
--- fourteen valid words
-pub record ValidWords (words : List ℕ) : Type 0 where
-  pub long : length words ≡ wordCount
-  pub each : (j : ℕ) → j < wordCount → Valid (getD words j 0)
 
 pub coded-valid : (n : ℕ) → ValidWords (codedOf n)
 unfolding codedOf
@@ -53,11 +48,19 @@ pub coded-bits : (n : ℕ) → n < 2 ^ 70 → bitsOfWords (codedOf n) ≡ n
 unfolding bitsOfWords
 coded-bits n small = ap (joined dataWidths) (data-of n) ∙ join-parts 0 dataWidths n ∙ zero-add (n % 2 ^ 70) ∙ mod-eq-of-lt small
 
+module _ (words : List ℕ) (ok : ValidWords words) where
+  data-widths : InWidths dataWidths (map dataOf words)
+  data-widths = rw (ok .long) at (data-within words (valid-words words ok))
+
+  -- the bits that valid words carry are 70
+  pub carried-lt : bitsOfWords words < 2 ^ 70
+  unfolding bitsOfWords
+  carried-lt = join-lt data-widths
+
 -- and no others do
 pub coded-only : (words : List ℕ) → ValidWords words → codedOf (bitsOfWords words) ≡ words
 unfolding bitsOfWords codedOf dataAt
 coded-only words ok =
-    let within : InWidths dataWidths (map dataOf words) = rw (ok .long) at (data-within words (valid-words words ok)) in
     tabulate-is (λ j. encodeOf (dataAt (joined dataWidths (map dataOf words)) j)) 0 wordCount words (ok .long)
     (λ j h.
-    ap (λ (l : List ℕ). encodeOf (getD l j 0)) (parts-join 0 within) ∙ ap encodeOf (List·getD-map dataOf words j 0) ∙ sym (valid-encode (ok .each j h)))
+    ap (λ (l : List ℕ). encodeOf (getD l j 0)) (parts-join 0 (data-widths words ok)) ∙ ap encodeOf (List·getD-map dataOf words j 0) ∙ sym (valid-encode (ok .each j h)))

@@ -9,4 +9,6 @@ pub mod Refusing
 pub mod Places
 pub mod Carried
 pub mod RoundTrip
+pub mod WrittenAir
 pub mod GoesOn
+pub mod Given

@@ -13,7 +13,7 @@ use Rattle.word.proofs.Multiples.{encode-data}
 use Rattle.crc.specs.Crc5.{headerBit}
 use Rattle.air.specs.Air.{wordCount, airOf}
 use Rattle.air.proofs.Places.{air-at}
-use Rattle.header.specs.Fields.{dataAt, codedOf}
+use Rattle.header.specs.Fields.{dataAt, codedOf, travelsAt}
 use Rattle.header.proofs.Coding.{data-at, data-lt}
 
 pub coded-at : (n j : ℕ) → j < wordCount → getD (codedOf n) j 0 ≡ encodeOf (dataAt n j)
@@ -22,7 +22,6 @@ coded-at n j h = tabulate-at (λ j. encodeOf (dataAt n j)) 0 wordCount j h
 
 -- "Bit 5j+t stands at position 14-t of its word"
 pub bit-place : (n j t : ℕ) → j < wordCount → t < 5 → getD (codedOf n) j 0 / 2 ^ (14 - t) % 2 ≡ headerBit n (5 * j + t)
-unfolding headerBit
 bit-place n j t hj ht =
     let word : 14 - t ≡ 10 + (4 - t) = omega arith in
     let header : 69 - (5 * j + t) ≡ 5 * (wordCount - suc j) + (4 - t) = omega arith in
@@ -30,9 +29,6 @@ bit-place n j t hj ht =
     (bit-of-low (n / 2 ^ (5 * (wordCount - suc j))) 5 (4 - t) (omega arith) ∙ ap (λ (x : ℕ). x % 2) (shr-shr n (5 * (wordCount - suc j)) (4 - t)))
 
 -- so it travels at air bit 14 (14 - t) + j: header bit 0 at 196, bit 69 at 153
-abbrev pub travelsAt : ℕ → ℕ
-travelsAt k = wordCount * (14 - k % 5) + k / 5
-
 pub bit-travels : (n k : ℕ) → k < 70 → getD (airOf (codedOf n)) (travelsAt k) 0 ≡ headerBit n k
 bit-travels n k h =
     let split : 5 * (k / 5) + k % 5 ≡ k = omega arith in

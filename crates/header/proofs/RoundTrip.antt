@@ -2,7 +2,7 @@
 -- Assumes nothing.
 use mathlib.Core.Path.{_≡_, sym, ap, _∙_}
 use mathlib.Core.List.{List, [], append-nil}
-use Prim.Native.Nat.{ℕ, _≤_, _<_}
+use Prim.Native.Nat.{ℕ, _≤_}
 use native.Mathlib.Omega.{arith}
 use lib.Dec.{lit<}
 use lib.Pow.{high}
@@ -11,7 +11,6 @@ use borrow.Author.Tests.{eq-eqb, le-ltb}
 use Rattle.base.specs.Lists.{AreBits}
 use Rattle.base.specs.Checks.{first}
 use Rattle.base.proofs.Joined.{parts-join, join-lt}
-use Rattle.crc.specs.Crc.{crc13Of}
 use Rattle.crc.specs.Crc5.{crc5Of}
 use Rattle.crc.proofs.Width.{crc5-lt}
 use Rattle.crc.proofs.Unseen.{carried-same}
@@ -20,14 +19,13 @@ use Rattle.air.proofs.Bits.{no-bit-none}
 use Rattle.air.proofs.Places.{words-lt, words-back, air-length, air-bits}
 use Rattle.air.proofs.Restored.{AllClose, distances, restored-none, restored-words, restored-flips, close-self, distances-self}
 use Rattle.header.specs.declared.Fields.{Fields}
-use Rattle.header.specs.declared.Header.{Header}
 use Rattle.header.specs.declared.Answer.the-variants.{Accepted}
-use Rattle.header.specs.Fields.{fieldCount, valuesOf, headerFrom, headerOf, bitsOfWords, codedOf}
+use Rattle.header.specs.Fields.{fieldCount, valuesOf, headerFrom, headerOf, bitsOfWords, codedOf, ValidWords}
 use Rattle.header.specs.Reading.{headerChecks, readHeaderOf}
-use Rattle.header.specs.Writing.{firstOver, payloadLimit, bitsWith, bitsFor, airFor}
+use Rattle.header.specs.Writing.{firstOver, payloadLimit, bitsWith, bitsFor, headerFor, airFor}
 use Rattle.header.proofs.Ranges.{in-range}
 use Rattle.header.proofs.Packing.{values-within}
-use Rattle.header.proofs.Carried.{ValidWords, coded-valid, valid-words, coded-bits}
+use Rattle.header.proofs.Carried.{coded-valid, valid-words, coded-bits}
 
 -- a header within three places of valid words with the bits n is read as these bits, with the places in which it differs
 module _ (air valid : List ℕ) (long : length air ≡ airBits) (bits : AreBits air) (so : AllClose (wordsOf air) valid) where
@@ -41,15 +39,6 @@ module _ (air valid : List ℕ) (long : length air ≡ airBits) (bits : AreBits 
         restored-words (wordsOf air) (words-lt air bits) valid so,
         restored-flips (wordsOf air) (words-lt air bits) valid so,
       )
-
--- the header that is written for some fields and a payload
-abbrev pub headerFor : Fields → List ℕ → Header
-headerFor f payload = record {
-  «fields» = f;
-  «pdu_length» = length payload;
-  «crc13» = crc13Of payload;
-  «crc5» = crc5Of (bitsWith f payload 0);
-}
 
 -- the words of what is written are those that carry its bits
 pub written-words : (f : Fields) (payload : List ℕ) → wordsOf (airFor f payload) ≡ codedOf (bitsFor f payload)

@@ -1,19 +1,22 @@
--- The fields of a header from its two numbers.
+-- The fields of a header from its two numbers, and its bits from its fields.
 -- Assumes nothing.
-use mathlib.Core.Path.{_≡_, sym, ap}
-use mathlib.Core.List.{_++_}
-use Prim.Native.Nat.{ℕ, _+_, _*_, _/_, _<_, _^_}
-use native.Mathlib.Nat.{mod-lt}
-use lib.Dec.{lit<}
-use Rattle.base.specs.Parts.{partsOf}
-use Rattle.base.proofs.Joined.{parts-append}
-use Rattle.header.specs.Fields.{upperWidths, lowerWidths, headerFrom, headerOf}
+use mathlib.Core.Path.{_≡_, sym, ap, _∙_}
+use mathlib.Core.List.{List, [], _∷_, _++_}
+use Prim.Native.Nat.{ℕ, _+_, _*_, _%_, _<_, _^_}
+use native.Mathlib.Nat.{mod-eq-of-lt, zero-add}
+use Rattle.base.specs.Parts.{partsOf, joined}
+use Rattle.base.proofs.Joined.{parts-append, join-parts}
+use Rattle.header.specs.declared.Header.{Header}
+use Rattle.header.specs.Fields.{upperWidths, lowerWidths, widths, valuesOf, headerFrom, headerOf}
 
 pub unpacked : (hi lo : ℕ) → lo < 2 ^ 40 → headerFrom (partsOf upperWidths hi ++ partsOf lowerWidths lo) ≡ headerOf (hi * 2 ^ 40 + lo)
 unfolding headerOf
 unpacked hi lo h = ap headerFrom (sym (parts-append upperWidths lowerWidths hi lo h))
 
--- FrCntTx has four bits
-pub counter-lt : (n : ℕ) → headerOf n .«fields» .«fr_cnt_tx» < 16
+-- the values of a header's 17 fields, and that its bits are made of them
+abbrev pub valuesIn : Header → List ℕ
+valuesIn h = valuesOf (h .«fields») ++ (h .«pdu_length» ∷ h .«crc13» ∷ h .«crc5» ∷ [])
+
+pub header-bits : (n : ℕ) → n < 2 ^ 70 → joined widths (valuesIn (headerOf n)) ≡ n
 unfolding headerOf
-counter-lt n = mod-lt (n / 2 ^ 52) (lit< tt)
+header-bits n small = join-parts 0 widths n ∙ zero-add (n % 2 ^ 70) ∙ mod-eq-of-lt small

@@ -1,26 +1,28 @@
 -- The header's 70 bits as one number, bit 0 the most significant: its fields, and the data of its fourteen words.
 -- Assumes nothing.
-use mathlib.Core.List.{List, [], _∷_, _++_, map}
-use Prim.Native.Nat.{ℕ, _+_, _/_, _%_}
-use lib.ListN.{getD, replicate}
+use mathlib.Core.Path.{_≡_}
+use mathlib.Core.List.{List, [], _∷_, map}
+use Prim.Native.Nat.{ℕ, _+_, _-_, _*_, _/_, _%_, _<_}
+use lib.ListN.{length, getD, take, drop, replicate}
 use Rattle.base.specs.Lists.{tabulate}
 use Rattle.base.specs.Parts.{partsOf, joined}
-use Rattle.word.specs.Words.{dataOf, encodeOf}
+use Rattle.word.specs.Words.{Valid, dataOf, encodeOf}
 use Rattle.air.specs.Air.{wordCount}
 use Rattle.header.specs.declared.Fields.{Fields}
 use Rattle.header.specs.declared.Header.{Header}
 
 -- "70 bits, numbered from 0, each field most significant bit first: SrcId 7, DstId 7, FrCntTx 4, FrCntRx 4, SNR 4,
 -- AiTypeSrc 4, AiTypeDst 4, DfcId 2, Caller 1, Arq 1, PduTypeId 1, BchRq 1, Hailing 1, UdFl1 1, PduLength 10, CRC13 13,
--- CRC5 5." Bits 0 to 29 are six fields, and bits 30 to 69 the other eleven.
+-- CRC5 5."
+abbrev pub widths : List ℕ
+widths = 7 ∷ 7 ∷ 4 ∷ 4 ∷ 4 ∷ 4 ∷ 4 ∷ 2 ∷ 1 ∷ 1 ∷ 1 ∷ 1 ∷ 1 ∷ 1 ∷ 10 ∷ 13 ∷ 5 ∷ []
+
+-- bits 0 to 29 are six fields, and bits 30 to 69 the other eleven
 abbrev pub upperWidths : List ℕ
-upperWidths = 7 ∷ 7 ∷ 4 ∷ 4 ∷ 4 ∷ 4 ∷ []
+upperWidths = take 6 widths
 
 abbrev pub lowerWidths : List ℕ
-lowerWidths = 4 ∷ 2 ∷ 1 ∷ 1 ∷ 1 ∷ 1 ∷ 1 ∷ 1 ∷ 10 ∷ 13 ∷ 5 ∷ []
-
-abbrev pub widths : List ℕ
-widths = upperWidths ++ lowerWidths
+lowerWidths = drop 6 widths
 
 -- fields 0 to 13, those that a writer is handed
 abbrev pub fieldCount : ℕ
@@ -62,6 +64,13 @@ headerFrom l = record {
 unfoldable pub headerOf : ℕ → Header
 headerOf n = headerFrom (partsOf widths n)
 
+-- "SrcId 0 to 7", and the last AiTypeSrc that is not refused
+abbrev pub lastSource : ℕ
+lastSource = 7
+
+abbrev pub lastCoding : ℕ
+lastCoding = 3
+
 -- "satellite A, B, C, D is SrcId div 2, radio is SrcId mod 2 plus 1"
 abbrev pub satelliteOf : ℕ → ℕ
 satelliteOf srcId = srcId / 2
@@ -83,3 +92,12 @@ dataAt n j = getD (partsOf dataWidths n) j 0
 
 unfoldable pub codedOf : ℕ → List ℕ
 codedOf n = tabulate wordCount (λ j. encodeOf (dataAt n j))
+
+-- fourteen valid words
+pub record ValidWords (words : List ℕ) : Type 0 where
+  pub long : length words ≡ wordCount
+  pub each : (j : ℕ) → j < wordCount → Valid (getD words j 0)
+
+-- "Bit 5j+t stands at position 14-t of its word", and so travels at air bit 14 (14 - t) + j
+abbrev pub travelsAt : ℕ → ℕ
+travelsAt k = wordCount * (14 - k % 5) + k / 5

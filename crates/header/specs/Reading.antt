@@ -11,7 +11,7 @@ use Rattle.air.specs.Air.{wordCount, airBits, wordsOf, firstNoBit}
 use Rattle.air.specs.Mends.{firstBeyond, repairedOf, flipsIn}
 use Rattle.header.specs.declared.Answer.{Answer}
 use Rattle.header.specs.declared.Answer.the-variants.{Accepted, Refused}
-use Rattle.header.specs.Fields.{headerOf, bitsOfWords}
+use Rattle.header.specs.Fields.{lastSource, lastCoding, headerOf, bitsOfWords}
 
 -- the bits of the repaired header
 abbrev pub repairedBits : List ℕ → ℕ
@@ -34,9 +34,9 @@ headerChecks n =
     -- "CRC5 differs": CRC5 worked out
     check (not (eqb (crc5Of n) (headerOf n .«crc5»))) (Refused (refusal 4 (crc5Of n)))
     -- "SrcId above 7": SrcId
-    ∷ check (ltb 7 (headerOf n .«fields» .«src_id»)) (Refused (refusal 5 (headerOf n .«fields» .«src_id»)))
+    ∷ check (ltb lastSource (headerOf n .«fields» .«src_id»)) (Refused (refusal 5 (headerOf n .«fields» .«src_id»)))
     -- "AiTypeSrc above 3": AiTypeSrc
-    ∷ check (ltb 3 (headerOf n .«fields» .«ai_type_src»)) (Refused (refusal 6 (headerOf n .«fields» .«ai_type_src»)))
+    ∷ check (ltb lastCoding (headerOf n .«fields» .«ai_type_src»)) (Refused (refusal 6 (headerOf n .«fields» .«ai_type_src»)))
     ∷ []
 
 -- "in this order; the first that applies is given"

@@ -13,19 +13,20 @@ use Rattle.crc.specs.Crc.{crc13Of}
 use Rattle.crc.specs.Crc5.{crc5Of}
 use Rattle.air.specs.Air.{airBits, airOf}
 use Rattle.header.specs.declared.Fields.{Fields}
+use Rattle.header.specs.declared.Header.{Header}
 use Rattle.header.specs.declared.Written.{Written}
 use Rattle.header.specs.declared.Written.the-variants.{Done, Refused}
-use Rattle.header.specs.Fields.{widths, fieldCount, valuesOf, codedOf}
+use Rattle.header.specs.Fields.{widths, fieldCount, lastSource, lastCoding, valuesOf, codedOf}
 
--- the most that field k may be: "widths bound it, also SrcId to 7 and AiTypeSrc to 3"
+-- the most that field k may be: "widths bound it, also SrcId to 7 and AiTypeSrc to 3", which are fields 0 and 5
 abbrev pub mostOf : ℕ → ℕ
-mostOf k = cond (eqb k 0) 7 (cond (eqb k 5) 3 (2 ^ getD widths k 0 - 1))
+mostOf k = cond (eqb k 0) lastSource (cond (eqb k 5) lastCoding (2 ^ getD widths k 0 - 1))
 
 -- "the lowest such field's number in the list above, from 0"; 14 where all are in range
 abbrev pub firstOver : List ℕ → ℕ
 firstOver values = lowest fieldCount (λ k. ltb (mostOf k) (getD values k 0))
 
--- "a payload of at most 1,023 bytes": "the field has 10 bits, so 1,023 is the limit"
+-- "the field has 10 bits, so 1,023 is the limit"
 abbrev pub payloadLimit : ℕ
 payloadLimit = 1023
 
@@ -50,6 +51,15 @@ bitsWith f payload crc5 = joined widths (valuesOf f ++ (length payload ∷ crc13
 -- CRC5 is worked out from bits 0 to 64, so of the header without it
 unfoldable pub bitsFor : Fields → List ℕ → ℕ
 bitsFor f payload = bitsWith f payload (crc5Of (bitsWith f payload 0))
+
+-- the header that is written for some fields and a payload
+abbrev pub headerFor : Fields → List ℕ → Header
+headerFor f payload = record {
+  «fields» = f;
+  «pdu_length» = length payload;
+  «crc13» = crc13Of payload;
+  «crc5» = crc5Of (bitsWith f payload 0);
+}
 
 -- the 210 bits on air
 unfoldable pub airFor : Fields → List ℕ → List ℕ

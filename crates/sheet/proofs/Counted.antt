@@ -17,7 +17,7 @@ use Rattle.sheet.specs.Sheets.{records, refusalCounts, recordOf, HasCoun
 use Rattle.sheet.specs.Histories.{ownIn, replayFrom, refusedIn}
 use Rattle.sheet.proofs.Growing.{Within, within-more, within-heard, next-frames}
 use Rattle.sheet.proofs.Offering.{Countable, recorded, numbered}
-use Rattle.sheet.proofs.OneMore.{sum-part, sum-set}
+use Rattle.base.proofs.OneMore.{sum-part, sum-set}
 
 -- a sheet that has taken n frames
 pub record Grown (n : ℕ) (sheet : Sheet) : Type 0 where

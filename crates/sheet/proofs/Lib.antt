@@ -2,7 +2,6 @@ pub mod Growing
 pub mod Totals
 pub mod Offering
 pub mod Refusals
-pub mod OneMore
 pub mod Counted
 pub mod Running
 pub mod Replay

@@ -31,13 +31,10 @@ module _ (sheet : Sheet) where
   full-refuses many air payload = sym (gives-17 sheet true (sym (le-leb fullSheet (heardOf sheet) many)) air payload refl)
 
   module _ (air payload : List ℕ) where
-    -- "Given exactly when": the sum is 65,535 or more
-    pub given-17 : fullSheet ≤ heardOf sheet → offerOf sheet air payload .answer ≡ Refused (refusal 17 fullSheet)
-    given-17 many = ap (λ (o : Offered). o .answer) (full-refuses many air payload)
-
     frame-answer : heardOf sheet < fullSheet → (a : Answer) → offerOf sheet air payload .answer ≡ a → frameOf air payload ≡ a
     frame-answer room a e = sym (ap (λ (o : Offered). o .answer) (room-takes room air payload)) ∙ e
 
+    -- "Given exactly when": 17 only where the sum is 65,535 or more
     pub only-17 : offerOf sheet air payload .answer ≡ Refused (refusal 17 fullSheet) → fullSheet ≤ heardOf sheet
     only-17 e =
         ⊎-elim

@@ -15,7 +15,7 @@ use Rattle.sheet.specs.Histories.{Frame, answerOf, runOf, sheetOf, taken
 use Rattle.sheet.proofs.Offering.{frame-countable}
 use Rattle.sheet.proofs.Refusals.{room-takes, full-refuses}
 use Rattle.sheet.proofs.Counted.{Grown, counted-grown}
-use Rattle.sheet.proofs.OneMore.{sum-zeros}
+use Rattle.base.proofs.OneMore.{sum-zeros}
 
 -- a list of one value, read anywhere
 read-replicated : {A : Type 0} (n k : ℕ) (a : A) → getD (replicate n a) k a ≡ a

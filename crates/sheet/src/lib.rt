@@ -35,7 +35,7 @@ pub struct Offered {
 const COUNT_LIMIT: u32 = 4294967295;
 
 // The frames that a sheet takes.
-const FULL: u64 = 65535;
+pub const FULL: u64 = 65535;
 
 // A sheet that was offered nothing.
 pub fn new_sheet() -> Sheet

@@ -1,4 +1,5 @@
 pub mod Multiples
+pub mod Degrees
 pub mod Valids
 pub mod Nearest
 pub mod Division

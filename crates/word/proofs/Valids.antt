@@ -1,14 +1,15 @@
 -- The valid words: their sums are valid, and any two differ in at least seven places.
 -- Assumes nothing.
 use mathlib.Core.Path.{_≡_, refl, sym, ap, ap₂, _∙_, subst}
-use Prim.Native.Nat.{ℕ, _≤_, _<_}
+use Prim.Native.Nat.{ℕ, _/_, _%_, _^_, _≤_, _<_}
 use native.Mathlib.Nat.{le-trans, add-le-add}
-use lib.Bits.{bitXor, xor-lt, xor-self}
+use lib.Bits.{bitXor, differ, xor-lt, xor-self}
 use lib.Count.{onesIn}
 use lib.Dec.{eqb}
-use Rattle.base.specs.Lists.{lowest}
+use Rattle.base.specs.Lists.{lowest, sumTo}
 use Rattle.base.proofs.Xor.{xor-left, xor-none}
-use Rattle.base.proofs.Ones.{ones-xor-le}
+use Rattle.base.proofs.Sums.{sum-same}
+use Rattle.base.proofs.Ones.{ones-xor-le, ones-sum, xor-bit}
 use Rattle.word.specs.Words.{wordLimit, multipleOf, Valid, dataOf, encodeOf, distance}
 use Rattle.word.proofs.Multiples.{multiple-xor, multiple-lt, multiple-zero, multiple-encode, multiplier-lt}
 
@@ -39,6 +40,11 @@ valid-one w {u} {v} a b near-u near-v =
 pub distance-self : (w : ℕ) → distance w w ≡ 0
 unfolding distance onesIn
 distance-self w = ap (onesIn 15) (xor-self w)
+
+-- the places in which two words differ, one by one
+pub distance-places : (a b : ℕ) → distance a b ≡ sumTo 15 (λ i. differ (a / 2 ^ i % 2) (b / 2 ^ i % 2))
+unfolding distance
+distance-places a b = ones-sum 15 (bitXor a b) ∙ sum-same 15 _ _ (λ i h. xor-bit a b i)
 
 -- data and the valid word that has them
 pub encode-valid : (d : ℕ) → d < 32 → Valid (encodeOf d)

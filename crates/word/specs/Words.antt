@@ -21,7 +21,7 @@ product (suc k) a b = bitXor (a % 2 * b) (product k (a / 2) (b * 2))
 abbrev pub generator : ℕ
 generator = 0x537
 
--- its multiple with the multiplier q. Of degree below 15 it is where q is of degree below 5, so q has five coefficients
+-- its multiple with the multiplier q, which has five coefficients: `all-multiples` shows that those of degree below 15 are these
 unfoldable pub multipleOf : ℕ → ℕ
 multipleOf q = product 5 q generator
 

@@ -1,0 +1,25 @@
+-- `header::reading::read_bits` meets its contract: row 3, or what rows 4 to 6 say of the repaired words.
+-- Assumes nothing.
+use borrow.Author.Needs.{needs}
+use Rattle.header.proofs.Rows.{gives-3, repaired, leaves}
+use Rattle.header.proofs.reading.read_bits.Statement.{statement}
+use Rattle.header.proofs.reading.read_bits.Tie as tie
+
+words-requires : tie.Need-words-requires
+words-requires c κs = search needs
+
+mend-requires : tie.Need-mend-requires
+mend-requires c κs = search needs
+
+returns : tie.Need-returns
+returns c = search (needs, gives-3)
+
+judge-words-requires : tie.Need-judge-words-requires
+judge-words-requires c κs = search (needs, repaired)
+
+returns-2 : tie.Need-returns-2
+returns-2 c = search (needs, leaves)
+
+pub read-bits-spec : {M : Type 1} → statement M
+read-bits-spec =
+    tie.close (tie.spec words-requires mend-requires returns judge-words-requires returns-2)

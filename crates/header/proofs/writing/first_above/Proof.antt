@@ -1,0 +1,55 @@
+-- `header::writing::first_above` meets its contract. Invariant: the fields before k are in range. The table is the one that its rule makes.
+-- Assumes nothing.
+use borrow.Author.Needs.{needs}
+use Prim.Native.Nat.{_-_}
+use Rattle.base.specs.Lists.{tabulate}
+use Rattle.header.proofs.Ranges.{Checked, over-starts, over-goes-on, over-stops, over-ends}
+use Rattle.header.proofs.writing.first_above.Statement.{statement}
+use Rattle.header.proofs.writing.first_above.Tie as tie
+
+abbrev Inv-loop : tie.InvT-loop
+Inv-loop values k₀ k = Checked values k
+
+abbrev μ-loop : tie.MeasureT-loop
+μ-loop values k₀ k = 14 - k
+
+loop-holds : tie.Need-loop-holds Inv-loop μ-loop
+loop-holds c = search (needs, over-starts)
+
+array-read-if1 : tie.Need-array-read-if1 Inv-loop μ-loop
+array-read-if1 c = search needs
+
+array-read-if1-2 : tie.Need-array-read-if1-2 Inv-loop μ-loop
+array-read-if1-2 c = search needs
+
+returns : tie.Need-returns Inv-loop μ-loop
+unfolding tabulate
+returns c = over-stops (c .before .before .before .args .t1) (c .before .before .loop .k) (c .before .before .loop .inv) (c .before .loop-test .taken) (c .if1 .taken)
+
+add-k : tie.Need-add-k Inv-loop μ-loop
+add-k c = search needs
+
+loop-less : tie.Need-loop-less Inv-loop μ-loop
+loop-less c = search needs
+
+loop-again : tie.Need-loop-again Inv-loop μ-loop
+unfolding tabulate
+loop-again c = over-goes-on (c .before .before .before .args .t1) (c .before .before .loop .k) (c .before .before .loop .inv) (c .before .loop-test .taken) (c .if1 .left)
+
+returns-2 : tie.Need-returns-2 Inv-loop μ-loop
+returns-2 c = search (needs, over-ends)
+
+pub first-above-spec : {M : Type 1} → statement M
+first-above-spec =
+    tie.close
+    (tie.spec
+    Inv-loop
+    μ-loop
+    loop-holds
+    array-read-if1
+    array-read-if1-2
+    returns
+    add-k
+    loop-less
+    loop-again
+    returns-2)

@@ -1,0 +1,164 @@
+// The header reader: the words' data make 70 bits, the bits make fields, and the fields are judged.
+use crate::Answer;
+use crate::Fields;
+use crate::Header;
+use base::BEYOND_REPAIR;
+use base::CRC5_DIFFERS;
+use base::NO_BIT;
+use base::NOT_210_LONG;
+use base::Refusal;
+use base::UNKNOWN_CODING;
+use base::UNKNOWN_SOURCE;
+ghost use mathlib.Core.Path.{_≡_};
+ghost use mathlib.Core.List.{map};
+ghost use Prim.Native.Nat.{ℕ, _+_, _*_, _<_, _≤_, _^_};
+ghost use lib.ListN.{length, getD, replicate};
+ghost use Rattle.base.specs.Lists.{AreBits};
+ghost use Rattle.base.specs.Checks.{first};
+ghost use Rattle.base.specs.Parts.{joined};
+ghost use Rattle.word.specs.Words.{wordLimit, dataOf};
+ghost use Rattle.word.specs.Repairs.{syndromes};
+ghost use Rattle.air.specs.Air.{airBits};
+ghost use Rattle.header.specs.Fields.{headerOf, bitsOfWords};
+ghost use Rattle.header.specs.Reading.{headerChecks, readHeaderOf};
+
+// The fields of header bits 0 to 29, `hi`, and 30 to 69, `lo`.
+fn unpack(hi: u64, lo: u64) -> Header
+    requires { ⌜ lo < 2 ^ 40 ⌝ }
+    ensures { λ r. ⌜ r ≡ headerOf (hi * 2 ^ 40 + lo) ⌝ }
+{
+    Header {
+        fields: Fields {
+            src_id: (hi / 0x80_0000 % 128) as u8,
+            dst_id: (hi / 0x1_0000 % 128) as u8,
+            fr_cnt_tx: (hi / 0x1000 % 16) as u8,
+            fr_cnt_rx: (hi / 0x100 % 16) as u8,
+            snr: (hi / 16 % 16) as u8,
+            ai_type_src: (hi % 16) as u8,
+            ai_type_dst: (lo / 0x10_0000_0000 % 16) as u8,
+            dfc_id: (lo / 0x4_0000_0000 % 4) as u8,
+            caller: (lo / 0x2_0000_0000 % 2) as u8,
+            arq: (lo / 0x1_0000_0000 % 2) as u8,
+            pdu_type_id: (lo / 0x8000_0000 % 2) as u8,
+            bch_rq: (lo / 0x4000_0000 % 2) as u8,
+            hailing: (lo / 0x2000_0000 % 2) as u8,
+            ud_fl1: (lo / 0x1000_0000 % 2) as u8,
+        },
+        pdu_length: (lo / 0x4_0000 % 1024) as u16,
+        crc13: (lo / 32 % 8192) as u16,
+        crc5: (lo % 32) as u8,
+    }
+}
+
+// The five data bits of a word.
+fn data_of(word: u16) -> u64
+    ensures { λ r. ⌜ r ≡ dataOf word ⌝ }
+{
+    (word / 1024) as u64
+}
+
+// The data of up to eight words, five bits each, as one number.
+fn collect(words: &[u16]) -> u64
+    requires { ⌜ length (now words) ≤ 8 ⌝ }
+    requires { ⌜ ((k : ℕ) → getD (now words) k 0 < wordLimit) ⌝ }
+    ensures { λ r. ⌜ r ≡ joined (replicate (length (now (words .entry))) 5) (map dataOf (now (words .entry))) ⌝ }
+{
+    let mut number: u64 = 0;
+    let mut i = 0;
+    while i < words.len() {
+        number = number * 32 + data_of(words[i]);
+        i += 1;
+    }
+    number
+}
+
+// Checks 4 to 6 on the bits of a repaired header.
+fn judge(hi: u64, lo: u64, flips: u32) -> Answer
+    requires { ⌜ hi < 2 ^ 30 ⌝ }
+    requires { ⌜ lo < 2 ^ 40 ⌝ }
+    ensures { λ r. ⌜ r ≡ first (Answer.Accepted (headerOf (hi * 2 ^ 40 + lo)) flips) (headerChecks (hi * 2 ^ 40 + lo)) ⌝ }
+{
+    let header = unpack(hi, lo);
+    let crc5 = crc::crc5(hi, lo);
+    if crc5 != header.crc5 {
+        return Answer::Refused(Refusal {
+            number: CRC5_DIFFERS,
+            place: crc5 as usize,
+        });
+    }
+    let src_id = header.fields.src_id;
+    if 7 < src_id {
+        return Answer::Refused(Refusal {
+            number: UNKNOWN_SOURCE,
+            place: src_id as usize,
+        });
+    }
+    let ai_type_src = header.fields.ai_type_src;
+    if 3 < ai_type_src {
+        return Answer::Refused(Refusal {
+            number: UNKNOWN_CODING,
+            place: ai_type_src as usize,
+        });
+    }
+    Answer::Accepted { header, flips }
+}
+
+// The same on fourteen repaired words.
+fn judge_words(words: [u16; 14], flips: u32) -> Answer
+    requires { ⌜ ((k : ℕ) → getD words k 0 < wordLimit) ⌝ }
+    ensures { λ r. ⌜ r ≡ first (Answer.Accepted (headerOf (bitsOfWords words)) flips) (headerChecks (bitsOfWords words)) ⌝ }
+{
+    let hi = collect(&words[0..6]);
+    let lo = collect(&words[6..14]);
+    judge(hi, lo, flips)
+}
+
+// Checks 3 to 6 on 210 air bits.
+fn read_bits(table: &[u16; 1024], air: &[u8]) -> Answer
+    requires { ⌜ now table ≡ syndromes ⌝ }
+    requires { ⌜ length (now air) ≡ airBits ⌝ }
+    requires { ⌜ AreBits (now air) ⌝ }
+    ensures { λ r. ⌜ r ≡ readHeaderOf (now (air .entry)) ⌝ }
+{
+    let mended = air::mend(table, air::words(air));
+    let beyond = mended.beyond;
+    if beyond < 14 {
+        return Answer::Refused(Refusal {
+            number: BEYOND_REPAIR,
+            place: beyond,
+        });
+    }
+    let words = mended.words;
+    let flips = mended.flips;
+    judge_words(words, flips)
+}
+
+// The reader of a header alone, by a lent copy of the syndrome table: what a caller with many headers copies once.
+pub fn read_header_in(table: &[u16; 1024], header: &[u8]) -> Answer
+    requires { ⌜ now table ≡ syndromes ⌝ }
+    ensures { λ r. ⌜ r ≡ readHeaderOf (now (header .entry)) ⌝ }
+{
+    let n = header.len();
+    if n != 210 {
+        return Answer::Refused(Refusal {
+            number: NOT_210_LONG,
+            place: n,
+        });
+    }
+    let at = air::first_no_bit(header);
+    if at < 210 {
+        return Answer::Refused(Refusal {
+            number: NO_BIT,
+            place: at,
+        });
+    }
+    read_bits(table, header)
+}
+
+// The reader of a header alone, of any bytes: the repaired header and the number of flips, or the first refusal of 1 to 6.
+pub fn read_header(header: &[u8]) -> Answer
+    ensures { λ r. ⌜ r ≡ readHeaderOf (now (header .entry)) ⌝ }
+{
+    let table = word::table::whole();
+    read_header_in(&table, header)
+}

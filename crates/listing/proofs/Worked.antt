@@ -1,0 +1,40 @@
+-- The paper's worked outputs.
+-- Assumes nothing.
+use mathlib.Core.Path.{_≡_, refl}
+use mathlib.Core.List.{[], _∷_, flatMap}
+use lib.Count.{onesIn}
+use lib.ListN.{replicate}
+use Rattle.base.specs.Lists.{tabulate, sumTo, lowest}
+use Rattle.text.specs.Text.{ascii, decimalOf}
+use Rattle.word.specs.Words.{multipleOf, distance}
+use Rattle.word.specs.Repairs.{nearest, repairOf}
+use Rattle.crc.specs.Crc.{crcStep}
+use Rattle.crc.specs.Crc5.{message, nineBytes, crc5Over, countedFlown, crc5Of}
+use Rattle.air.specs.Air.{wordAt, wordsOf, firstNoBit}
+use Rattle.air.specs.Mends.{firstBeyond, repairedOf}
+use Rattle.header.specs.Fields.{headerOf, bitsOfWords}
+use Rattle.frame.specs.Frames.{frameOf}
+use Rattle.sheet.specs.Sheets.{refuseOf, acceptedOf, refusedOf, offerOf}
+use Rattle.listing.specs.Records.{recordSize, cutOf}
+use Rattle.listing.specs.Lines.{title, acceptedLine, lastLine, cutLine}
+use Rattle.listing.specs.Listing.{scanOf, listingOf}
+
+-- "Empty input gives the first line and `heard 0 accepted 0 refused 0`."
+pub no-record : listingOf [] ≡ ascii "pass sheet\nheard 0 accepted 0 refused 0\n"
+unfolding listingOf scanOf title lastLine decimalOf acceptedOf refusedOf sumTo
+no-record = refl
+
+-- "Any rest that is no whole record cuts, one lone length byte too."
+pub lone-byte : listingOf (0 ∷ []) ≡ ascii "pass sheet\ncut\nheard 0 accepted 0 refused 0\n"
+unfolding listingOf scanOf cutOf title lastLine cutLine decimalOf acceptedOf refusedOf sumTo
+lone-byte = refl
+
+-- "An accepted record reads `3 accepted B radio 2 tx 5 repaired 7 bytes 42`": record 3, of source 3
+pub one-line : acceptedLine 3 3 5 7 42 ≡ ascii "3 accepted B radio 2 tx 5 repaired 7 bytes 42\n"
+unfolding decimalOf
+one-line = refl
+
+-- "Output for one record with length 0 and 210 zeros, whole"
+pub one-record : listingOf (replicate (recordSize 0) 0) ≡ ascii "pass sheet\n0 refused 4 6\nheard 1 accepted 0 refused 1\n"
+unfolding listingOf scanOf title lastLine decimalOf acceptedOf refusedOf sumTo cutOf offerOf frameOf refuseOf tabulate lowest multipleOf distance onesIn nearest repairOf crcStep message nineBytes crc5Over countedFlown crc5Of wordAt wordsOf firstNoBit firstBeyond repairedOf headerOf bitsOfWords flatMap
+one-record = refl

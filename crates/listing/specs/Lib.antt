@@ -1,0 +1,5 @@
+pub mod Records
+pub mod Lines
+pub mod Listing
+pub mod Pieces
+pub mod Promises

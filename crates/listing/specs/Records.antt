@@ -1,0 +1,43 @@
+-- Records, cut out of the bytes at hand.
+-- Assumes nothing.
+use mathlib.Core.List.{List, [], _∷_}
+use Prim.Native.Nat.{ℕ, _+_, _*_}
+use lib.Dec.{ltb}
+use lib.ListN.{length, getD, take, drop}
+use Rattle.base.specs.Checks.{Check, check, first}
+use Rattle.air.specs.Air.{airBits}
+use Rattle.header.specs.Writing.{payloadLimit}
+use Rattle.listing.specs.declared.Cut.{Cut}
+use Rattle.listing.specs.declared.Cut.the-variants.{Whole, TooLong, Short}
+
+-- "records of a two-byte length, high byte first, 210 header bytes, that many payload bytes"
+abbrev pub lengthBytes : ℕ
+lengthBytes = 2
+
+abbrev pub lengthIn : List ℕ → ℕ
+lengthIn l = getD l 0 0 * 256 + getD l 1 0
+
+abbrev pub airIn : List ℕ → List ℕ
+airIn l = take airBits (drop lengthBytes l)
+
+abbrev pub payloadStart : ℕ
+payloadStart = lengthBytes + airBits
+
+abbrev pub payloadIn : ℕ → List ℕ → List ℕ
+payloadIn n l = take n (drop payloadStart l)
+
+-- the bytes of a record with n payload bytes
+abbrev pub recordSize : ℕ → ℕ
+recordSize n = payloadStart + n
+
+-- "A length over 1,023 or a record that ends early"
+abbrev pub cutChecks : List ℕ → List (Check Cut)
+cutChecks l =
+    check (ltb (length l) lengthBytes) Short
+    ∷ check (ltb payloadLimit (lengthIn l)) TooLong
+    ∷ check (ltb (length l) (recordSize (lengthIn l))) Short
+    ∷ []
+
+-- what stands at the front of some bytes
+unfoldable pub cutOf : List ℕ → Cut
+cutOf l = first (Whole (lengthIn l)) (cutChecks l)
