@@ -1,11 +1,11 @@
--- Lists made by a rule: their length, what they hold, and one element more.
+-- Lists made by a rule: their length, what they hold, and one element more; and lists of one value.
 -- Assumes nothing.
 use mathlib.Core.Path.{_≡_, refl, sym, ap, ap₂, _∙_}
 use mathlib.Core.Logic.{⊎-elim}
 use mathlib.Core.List.{List, [], _∷_, _++_, map, map-append}
 use Prim.Native.Nat.{ℕ, zero, suc, _+_, _≤_, _<_}
 use native.Mathlib.Nat.{add-zero, zero-add, add-suc, suc-add, le-of-suc-le-suc, not-suc-le-zero, le-refl, le-step}
-use lib.ListN.{length, getD, length-map, List·getD-eq-default}
+use lib.ListN.{length, getD, replicate, length-map, List·getD-eq-default}
 use lib.Seq.{ext-getD}
 use Rattle.base.specs.Lists.{count, tabulate}
 use Rattle.base.proofs.Tests.{lt-or-ge}
@@ -60,3 +60,9 @@ tabulate-all P f n past each k =
     (λ (h : k < n). rw (tabulate-at f 0 n k h) (each k h))
     (λ (h : n ≤ k). rw (tabulate-past f 0 n k h) past)
     (lt-or-ge k n)
+
+-- a list of one value, read anywhere
+pub read-replicated : {A : Type 0} (n k : ℕ) (a : A) → getD (replicate n a) k a ≡ a
+read-replicated {A} zero k a = refl
+read-replicated {A} (suc n) zero a = refl
+read-replicated {A} (suc n) (suc k) a = read-replicated n k a

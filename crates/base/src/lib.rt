@@ -1,10 +1,16 @@
-// The one refusal of every layer, and its numbers. What else stands here are definitions (specs/) and laws (proofs/) that several crates
+// The one refusal of every layer and its numbers, and a writer's answer. What else stands here are definitions (specs/) and laws (proofs/) that several crates
 // cite.
 
 // "A refusal carries number and place only": the number is one of those below, the place what the paper's table names beside it.
 pub struct Refusal {
     pub number: u8,
     pub place: usize,
+}
+
+// The answer of a writer.
+pub enum Written {
+    Done,
+    Refused(Refusal),
 }
 
 // Frame: "header slice is not 210 long"

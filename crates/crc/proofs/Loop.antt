@@ -1,23 +1,10 @@
 -- The loops of a checksum, for every width and polynomial: over the bits of a byte, and over bytes.
 -- Assumes nothing.
-use mathlib.Core.Path.{_≡_, refl, sym, ap, _∙_}
+use mathlib.Core.Path.{_≡_, refl, sym, _∙_}
 use mathlib.Core.List.{List, [], _∷_, _++_, foldl, foldl-append, flatMap, reverse}
-use Prim.Native.Nat.{ℕ, _+_, _≤_, _<_}
-use Rattle.base.specs.Lists.{tabulate}
-use Rattle.base.proofs.Tabulate.{tabulate-length, tabulate-at}
-use Rattle.base.proofs.Fold.{Upward, up-goes-on, up-ends, Downward, down-ends}
+use Prim.Native.Nat.{ℕ, _≤_}
+use Rattle.base.proofs.Fold.{Downward, down-ends}
 use Rattle.crc.specs.Crc.{crcStep, crcOf, bitsOf, bitsOfBytes}
-
--- a loop that folds a list made by a rule: it reads the rule, and no list
-module _ {A S : Type 0} (f : S → A → S) (start : S) (n : ℕ) (rule : ℕ → A) where
-  module _ (i : ℕ) (state : S) (so : Upward f start (tabulate n rule) i state) where
-    pub rule-goes-on : i < n → (next : S) → next ≡ f state (rule i) → Upward f start (tabulate n rule) (i + 1) next
-    rule-goes-on h next e =
-        up-goes-on f start (tabulate n rule) i state (rule i) so (rw tabulate-length h) next
-        (e ∙ ap (f state) (sym (tabulate-at rule (rule i) n i h)))
-
-    pub rule-ends : n ≤ i → state ≡ foldl f start (tabulate n rule)
-    rule-ends h = up-ends f start (tabulate n rule) i state so (rw tabulate-length h)
 
 module _ (w p : ℕ) where
   -- two messages, one after the other

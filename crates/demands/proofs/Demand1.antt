@@ -12,13 +12,11 @@ use Rattle.base.specs.declared.Refusal.{Refusal}
 use Rattle.base.specs.Checks.{Exactly, refusal}
 use Rattle.header.specs.declared.Fields.{Fields}
 use Rattle.header.specs.declared.Answer.the-variants.{Refused}
-use Rattle.header.specs.declared.Written.{Written}
-use Rattle.header.specs.declared.Written.the-variants.{Refused as NotWritten}
+use Rattle.base.specs.declared.Written.{Written}
+use Rattle.base.specs.declared.Written.the-variants.{Refused as NotWritten}
 use Rattle.header.specs.Reading.{repairedBits, airChecks, headerChecks, readHeaderOf}
 use Rattle.header.specs.Writing.{writeChecks, writeHeaderOf, afterWrite, HeaderWritten}
 use Rattle.header.proofs.Given.{read-exactly, write-exactly}
-use Rattle.page.specs.declared.WriteAnswer.{WriteAnswer}
-use Rattle.page.specs.declared.WriteAnswer.the-variants.{Refused as NoRows}
 use Rattle.page.specs.declared.scaling.Scaling.{Scaling}
 use Rattle.page.specs.declared.scaling.ShownAnswer.the-variants.{Refused as NoValue}
 use Rattle.page.specs.Fields.{headOf, fieldsOf}
@@ -60,10 +58,10 @@ pub shown-refused-exactly : (k : Scaling) (x : ℤ) (why : Refusal) → Exactly 
 shown-refused-exactly = shown-exactly
 
 -- 18
-pub rows-refused-exactly : (out : List ℕ) (why : Refusal) → Exactly (writeOf out) (NoRows why) (rowsChecks out)
+pub rows-refused-exactly : (out : List ℕ) (why : Refusal) → Exactly (writeOf out) (NotWritten why) (rowsChecks out)
 rows-refused-exactly = rows-exactly
 
-pub rows-refused-unchanged : (rows : List ℤ) (before after : List ℕ) (r : WriteAnswer) (why : Refusal) → PageWritten rows before after r → r ≡ NoRows why → after ≡ before
+pub rows-refused-unchanged : (rows : List ℤ) (before after : List ℕ) (r : Written) (why : Refusal) → PageWritten rows before after r → r ≡ NotWritten why → after ≡ before
 rows-refused-unchanged = rows-unchanged
 
 -- 17: "sheet full, checked before anything else, sheet unchanged (place 65,535)", exactly when the sum is 65,535 or more

@@ -9,7 +9,7 @@ use lib.ListN.{take}
 use Rattle.header.specs.declared.Header.{Header}
 use Rattle.header.specs.declared.Fields.{Fields}
 use Rattle.header.specs.declared.Answer.the-variants.{Accepted}
-use Rattle.header.specs.declared.Written.the-variants.{Done}
+use Rattle.base.specs.declared.Written.the-variants.{Done}
 use Rattle.header.specs.Writing.{headerFor, HeaderWritten}
 use Rattle.header.proofs.WrittenAir.{Taken, taken}
 use Rattle.air.specs.Air.{airBits}

@@ -17,7 +17,7 @@ use Rattle.air.specs.Air.{wordCount, airBits}
 use Rattle.air.specs.Flips.{flipsBetween, flipsInWord, Burst}
 use Rattle.header.specs.declared.Fields.{Fields}
 use Rattle.header.specs.declared.Answer.the-variants.{Accepted, Refused}
-use Rattle.header.specs.declared.Written.the-variants.{Done}
+use Rattle.base.specs.declared.Written.the-variants.{Done}
 use Rattle.header.specs.Writing.{headerFor, HeaderWritten}
 use Rattle.header.proofs.WrittenAir.{Taken, taken}
 use Rattle.frame.specs.Frames.{frameOf}

@@ -12,7 +12,7 @@ use Rattle.crc.specs.Crc.{crc13Of}
 use Rattle.air.specs.Air.{firstNoBit}
 use Rattle.header.specs.declared.Fields.{Fields}
 use Rattle.header.specs.declared.Answer.{Answer}
-use Rattle.header.specs.declared.Written.{Written}
+use Rattle.base.specs.declared.Written.{Written}
 use Rattle.header.specs.Fields.{satelliteOf, radioOf}
 use Rattle.header.specs.Reading.{readHeaderOf}
 use Rattle.header.specs.Writing.{afterWrite, HeaderWritten}
@@ -25,7 +25,6 @@ use Rattle.sheet.specs.Sheets.{newSheet, acceptedOf, refusedOf, heardOf, fullOf
 use Rattle.listing.specs.declared.Cut.{Cut}
 use Rattle.listing.specs.Records.{cutOf}
 use Rattle.page.specs.declared.PageAnswer.{PageAnswer}
-use Rattle.page.specs.declared.WriteAnswer.{WriteAnswer}
 use Rattle.page.specs.declared.scaling.Scaling.{Scaling}
 use Rattle.page.specs.declared.scaling.ShownAnswer.{ShownAnswer}
 use Rattle.page.specs.Rows.{PageWritten}
@@ -73,7 +72,7 @@ read-frame-one air payload r s = one
 pub read-page-one : (payload : List ℕ) (r s : PageAnswer) → r ≡ pageOf payload → s ≡ pageOf payload → r ≡ s
 read-page-one payload r s = one
 
-pub write-page-one : (rows : List ℤ) (before x y : List ℕ) (r s : WriteAnswer) → PageWritten rows before x r → PageWritten rows before y s → (r ≡ s) × (x ≡ y)
+pub write-page-one : (rows : List ℤ) (before x y : List ℕ) (r s : Written) → PageWritten rows before x r → PageWritten rows before y s → (r ≡ s) × (x ≡ y)
 write-page-one rows before x y r s a b = (one (a .answer) (b .answer), one (a .bytes) (b .bytes))
 
 pub scaling-of-one : (row : ℕ) (r s : Scaling) → r ≡ scalingOf row → s ≡ scalingOf row → r ≡ s

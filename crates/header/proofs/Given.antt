@@ -1,17 +1,15 @@
 -- "Given exactly when", for the header's refusals, read and written.
 -- Assumes nothing.
-use mathlib.Core.Path.{_≡_}
 use mathlib.Core.List.{List, _++_}
 use Prim.Native.Nat.{ℕ}
-use native.Mathlib.Omega.{arith}
 use Rattle.base.specs.declared.Refusal.{Refusal}
 use Rattle.base.specs.Checks.{Exactly}
-use Rattle.base.proofs.Exactly.{exactly}
+use Rattle.base.proofs.Exactly.{exactly, done-apart}
 use Rattle.air.specs.Air.{wordsOf}
 use Rattle.air.specs.Mends.{flipsIn}
 use Rattle.header.specs.declared.Fields.{Fields}
 use Rattle.header.specs.declared.Answer.the-variants.{Refused}
-use Rattle.header.specs.declared.Written.the-variants.{Done, Refused as NotWritten}
+use Rattle.base.specs.declared.Written.the-variants.{Done, Refused as NotWritten}
 use Rattle.header.specs.Fields.{headerOf}
 use Rattle.header.specs.Reading.{repairedBits, airChecks, headerChecks, readHeaderOf}
 use Rattle.header.specs.Writing.{writeChecks, writeHeaderOf}
@@ -24,9 +22,6 @@ read-exactly air why =
     exactly (accepted air) (Refused why) (airChecks air ++ headerChecks (repairedBits air)) (apart (headerOf (repairedBits air)) (flipsIn (wordsOf air)) why)
 
 -- 13 to 15
-written-or-not : (why : Refusal) → Done ≡ NotWritten why → ⊥
-written-or-not why e = let z : _≡_ {A = ℕ} 0 1 = cc in omega arith
-
 pub write-exactly : (f : Fields) (payload : List ℕ) (room : ℕ) (why : Refusal) → Exactly (writeHeaderOf f payload room) (NotWritten why) (writeChecks f payload room)
 unfolding writeHeaderOf
-write-exactly f payload room why = exactly Done (NotWritten why) (writeChecks f payload room) (written-or-not why)
+write-exactly f payload room why = exactly Done (NotWritten why) (writeChecks f payload room) (done-apart why)

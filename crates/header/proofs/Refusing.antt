@@ -8,7 +8,7 @@ use borrow.Author.Tests.{lt-ltb, le-ltb}
 use Rattle.base.specs.Checks.{refusal}
 use Rattle.air.specs.Air.{airBits, airOf}
 use Rattle.header.specs.declared.Fields.{Fields}
-use Rattle.header.specs.declared.Written.the-variants.{Done, Refused}
+use Rattle.base.specs.declared.Written.the-variants.{Done, Refused}
 use Rattle.header.specs.Fields.{fieldCount, valuesOf, codedOf}
 use Rattle.header.specs.Writing.{firstOver, payloadLimit, writeHeaderOf, bitsFor, airFor, HeaderWritten}
 

@@ -3,18 +3,17 @@
 use mathlib.Core.Path.{_≡_, sym, ap, _∙_}
 use mathlib.Core.List.{List}
 use Prim.Native.Nat.{ℕ, _≤_}
-use native.Mathlib.Omega.{arith}
 use lib.ListN.{length, take, drop}
 use lib.Seq.{take-at}
 use borrow.Author.Tests.{ltb-false}
-use Rattle.base.specs.declared.Refusal.{Refusal}
 use Rattle.base.specs.Parts.{joined}
 use Rattle.base.proofs.First.{first-passes}
+use Rattle.base.proofs.Exactly.{done-apart}
 use Rattle.air.specs.Air.{airBits}
 use Rattle.air.proofs.Places.{air-length}
 use Rattle.header.specs.declared.Fields.{Fields}
 use Rattle.header.specs.declared.Header.{Header}
-use Rattle.header.specs.declared.Written.the-variants.{Done, Refused}
+use Rattle.base.specs.declared.Written.the-variants.{Done}
 use Rattle.header.specs.Fields.{widths, fieldCount, valuesOf, headerOf, bitsOfWords, codedOf, ValidWords}
 use Rattle.header.specs.Writing.{firstOver, payloadLimit, writeChecks, writeHeaderOf, bitsFor, headerFor, airFor, HeaderWritten}
 use Rattle.header.proofs.Unpacking.{valuesIn, header-bits}
@@ -30,13 +29,10 @@ pub record Taken (f : Fields) (payload after : List ℕ) : Type 0 where
   pub short : length payload ≤ payloadLimit
   pub air : take airBits after ≡ airFor f payload
 
-not-refused : (why : Refusal) → Refused why ≡ Done → ⊥
-not-refused why e = let z : _≡_ {A = ℕ} 0 1 = cc in omega arith
-
 pub taken : (f : Fields) (payload before after : List ℕ) → HeaderWritten f payload before Done after → Taken f payload after
 unfolding writeHeaderOf
 taken f payload before after so =
-    let passed = first-passes Done Done (writeChecks f payload (length before)) (not-refused _, (not-refused _, (not-refused _, tt))) (sym (so .answered)) in
+    let passed = first-passes Done Done (writeChecks f payload (length before)) ((λ e. done-apart _ (sym e)), ((λ e. done-apart _ (sym e)), ((λ e. done-apart _ (sym e)), tt))) (sym (so .answered)) in
     record {
       ranges = ltb-false (firstOver (valuesOf f)) fieldCount (passed .1 .1 .0);
       short = ltb-false payloadLimit (length payload) (passed .1 .1 .1 .0);

@@ -14,8 +14,8 @@ use Rattle.crc.specs.Crc5.{crc5Of}
 use Rattle.air.specs.Air.{airBits, airOf}
 use Rattle.header.specs.declared.Fields.{Fields}
 use Rattle.header.specs.declared.Header.{Header}
-use Rattle.header.specs.declared.Written.{Written}
-use Rattle.header.specs.declared.Written.the-variants.{Done, Refused}
+use Rattle.base.specs.declared.Written.{Written}
+use Rattle.base.specs.declared.Written.the-variants.{Done, Refused}
 use Rattle.header.specs.Fields.{widths, fieldCount, lastSource, lastCoding, valuesOf, codedOf}
 
 -- the most that field k may be: "widths bound it, also SrcId to 7 and AiTypeSrc to 3", which are fields 0 and 5

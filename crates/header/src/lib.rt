@@ -45,11 +45,6 @@ pub enum Answer {
     Refused(Refusal),
 }
 
-pub enum Written {
-    Done,
-    Refused(Refusal),
-}
-
 // The satellite of a source: A to D are 0 to 3.
 pub fn satellite(src_id: u8) -> u8
     ensures { λ r. ⌜ r ≡ satelliteOf «src_id» ⌝ }

@@ -1,11 +1,11 @@
 // The header writer: the fields make 70 bits, the bits make fourteen words, and the words are spread on the air.
 use crate::Fields;
 use crate::LONGEST_PAYLOAD;
-use crate::Written;
 use base::LONG_PAYLOAD;
 use base::OUT_OF_RANGE;
 use base::Refusal;
 use base::SHORT_OUTPUT;
+use base::Written;
 ghost use mathlib.Core.Path.{_≡_};
 ghost use mathlib.Core.List.{[], _∷_, _++_};
 ghost use Prim.Native.Nat.{_+_, _*_, _<_, _≤_, _^_};

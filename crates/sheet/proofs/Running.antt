@@ -5,7 +5,7 @@ use mathlib.Core.List.{List, [], _∷_}
 use Prim.Native.Nat.{ℕ, zero, suc, _+_, _≤_, _<_, min}
 use native.Mathlib.Nat.{zero-add}
 use native.Mathlib.Omega.{arith}
-use lib.ListN.{length, getD, take, replicate, length-take}
+use lib.ListN.{length, take, length-take}
 use Rattle.sheet.specs.declared.Source.{Source}
 use Rattle.sheet.specs.declared.Sheet.{Sheet}
 use Rattle.sheet.specs.declared.Offered.{Offered}
@@ -16,12 +16,7 @@ use Rattle.sheet.proofs.Offering.{frame-countable}
 use Rattle.sheet.proofs.Refusals.{room-takes, full-refuses}
 use Rattle.sheet.proofs.Counted.{Grown, counted-grown}
 use Rattle.base.proofs.OneMore.{sum-zeros}
-
--- a list of one value, read anywhere
-read-replicated : {A : Type 0} (n k : ℕ) (a : A) → getD (replicate n a) k a ≡ a
-read-replicated {A} zero k a = refl
-read-replicated {A} (suc n) zero a = refl
-read-replicated {A} (suc n) (suc k) a = read-replicated n k a
+use Rattle.base.proofs.Tabulate.{read-replicated}
 
 -- a new sheet has heard no source and counted no refusal
 pub new-silent : (k : ℕ) → sourceAt newSheet k ≡ silent

@@ -2,16 +2,16 @@
 use header::Answer;
 use header::Fields;
 use header::Header;
-use header::Written;
 use vector_records::numbers::PAYLOAD_ROOM;
 use vector_records::numbers::length_at;
 use vector_records::numbers::payload_at;
 use vector_records::print::put_numbers;
 use vector_records::print::put_output;
 use vector_records::print::put_refusal;
+use vector_records::print::put_written;
 ghost use Prim.Native.Nat.{_+_, _*_, _≤_};
 ghost use lib.ListN.{length};
-ghost use Rattle.vector_records.specs.Sizes.{recordBytes, lineRoom, outputRoom, numberRoom, answerRoom, refusalRoom};
+ghost use Rattle.vector_records.specs.Sizes.{recordBytes, lineRoom, outputRoom, numberRoom, answerRoom};
 
 // The longest header slice of a record.
 const HEADER_ROOM: usize = 256;
@@ -141,17 +141,6 @@ fn fields_of(bytes: &[u8]) -> Fields
         bch_rq: bytes[11],
         hailing: bytes[12],
         ud_fl1: bytes[13],
-    }
-}
-
-// Puts the answer of the header writer.
-fn put_written(out: &mut [u8], at: usize, answer: Written) -> usize
-    requires { ⌜ at + refusalRoom ≤ length (now out) ⌝ }
-    ensures { λ r. ⌜ r ≤ at + refusalRoom ⌝ }
-{
-    match answer {
-        Written::Done => text::put_word(out, at, b"written"),
-        Written::Refused(why) => put_refusal(out, at, why),
     }
 }
 

@@ -2,7 +2,6 @@
 use page::PageFields;
 use page::PageHeader;
 use page::PageVerdict;
-use page::WriteAnswer;
 use vector_records::numbers::length_at;
 use vector_records::numbers::signed_at;
 use vector_records::print::put_number;
@@ -10,9 +9,10 @@ use vector_records::print::put_numbers;
 use vector_records::print::put_output;
 use vector_records::print::put_refusal;
 use vector_records::print::put_rows;
+use vector_records::print::put_written;
 ghost use Prim.Native.Nat.{_+_, _*_, _≤_};
 ghost use lib.ListN.{length};
-ghost use Rattle.vector_records.specs.Sizes.{recordBytes, lineRoom, outputRoom, numberRoom, refusalRoom, rowsRoom};
+ghost use Rattle.vector_records.specs.Sizes.{recordBytes, lineRoom, outputRoom, numberRoom, rowsRoom};
 
 // The longest payload of a record.
 const PAGE_ROOM: usize = 1100;
@@ -100,17 +100,6 @@ fn rows_of(bytes: &[u8]) -> [i16; 17]
         signed_at(bytes, 30),
         signed_at(bytes, 32),
     ]
-}
-
-// Puts the answer of the page writer.
-fn put_written(out: &mut [u8], at: usize, answer: WriteAnswer) -> usize
-    requires { ⌜ at + refusalRoom ≤ length (now out) ⌝ }
-    ensures { λ r. ⌜ r ≤ at + refusalRoom ⌝ }
-{
-    match answer {
-        WriteAnswer::Written => text::put_word(out, at, b"written"),
-        WriteAnswer::Refused(why) => put_refusal(out, at, why),
-    }
 }
 
 // Has a page written to `user`, and puts the answer and what `user` holds then.

@@ -1,5 +1,6 @@
 // The parts of a line, put into a lent slice of bytes at a place. Each function answers the place after what it put.
 use base::Refusal;
+use base::Written;
 ghost use Prim.Native.Nat.{_+_, _*_, _<_, _≤_, _^_};
 ghost use lib.ListN.{length};
 ghost use Rattle.vector_records.specs.Sizes.{numberRoom, refusalRoom, rowsRoom};
@@ -75,6 +76,17 @@ pub fn put_refusal(out: &mut [u8], at: usize, why: Refusal) -> usize
 {
     let next = text::put_word(out, at, b"refused");
     put_numbers(out, next, &[why.number as u64, why.place as u64])
+}
+
+// Puts the answer of a writer.
+pub fn put_written(out: &mut [u8], at: usize, answer: Written) -> usize
+    requires { ⌜ at + refusalRoom ≤ length (now out) ⌝ }
+    ensures { λ r. ⌜ r ≤ at + refusalRoom ⌝ }
+{
+    match answer {
+        Written::Done => text::put_word(out, at, b"written"),
+        Written::Refused(why) => put_refusal(out, at, why),
+    }
 }
 
 // The hexadecimal digit of a number, and `?` for one that has none.

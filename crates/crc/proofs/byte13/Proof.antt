@@ -2,9 +2,8 @@
 -- Assumes nothing.
 use Prim.Native.Nat.{_-_}
 use borrow.Author.Needs.{needs}
-use Rattle.base.proofs.Fold.{Upward, up-starts}
+use Rattle.base.proofs.Fold.{Upward, up-starts, rule-goes-on, rule-ends}
 use Rattle.crc.specs.Crc.{crcStep, bitsOf, poly13}
-use Rattle.crc.proofs.Loop.{rule-goes-on, rule-ends}
 use Rattle.crc.proofs.byte13.Statement.{statement}
 use Rattle.crc.proofs.byte13.Tie as tie
 

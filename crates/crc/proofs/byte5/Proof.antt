@@ -2,10 +2,9 @@
 -- Assumes nothing.
 use Prim.Native.Nat.{_-_}
 use borrow.Author.Needs.{needs}
-use Rattle.base.proofs.Fold.{Upward, up-starts}
+use Rattle.base.proofs.Fold.{Upward, up-starts, rule-goes-on, rule-ends}
 use Rattle.crc.specs.Crc.{crcStep, bitsOf}
 use Rattle.crc.specs.Crc5.{poly5}
-use Rattle.crc.proofs.Loop.{rule-goes-on, rule-ends}
 use Rattle.crc.proofs.byte5.Statement.{statement}
 use Rattle.crc.proofs.byte5.Tie as tie
 
