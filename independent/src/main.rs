@@ -2,7 +2,7 @@
 
 use std::env;
 use std::ffi::{OsStr, OsString};
-use std::fs::File;
+use std::fs::{self, File};
 use std::io::{self, BufReader, BufWriter, ErrorKind, Read, StdoutLock, Write};
 use std::path::Path;
 use std::process::ExitCode;
@@ -11,7 +11,7 @@ use independent::example::write_example;
 use independent::header::LONGEST_PAYLOAD;
 use independent::listing::{list, Failure};
 use independent::season::{write_season, Cut, Full, Options};
-use independent::vectors::{self, write_inputs, write_lines, KINDS};
+use independent::vectors::{self, compare, write_inputs, write_lines, write_replies, KINDS};
 
 const USAGE: &str = "\
 usage: independent COMMAND ..
@@ -31,9 +31,13 @@ usage: independent COMMAND ..
   example                  the records of a small example pass
   vectors KIND [SEED]      a line for each input of KIND
   inputs KIND [SEED]       the inputs themselves, in binary
+  replies KIND [SEED]      the replies to them, in binary
+  compare KIND INPUTS REPLIES
+                           the replies of another program, in the file REPLIES, to the inputs in the
+                           file INPUTS: every one that differs, and how many
   help                     this text
 
-KIND of vectors and inputs is one of
+KIND of vectors is one of
  ";
 
 /// Bytes that are read or written at a time.
@@ -88,7 +92,7 @@ fn failed_write(error: io::Error) -> Stop {
     }
 }
 
-/// Runs a command; false where some input could not be read, which was told already.
+/// Runs a command; false where some input could not be read or replies differ, which was told already.
 fn run(arguments: &[OsString], out: &mut Output) -> Result<bool, Stop> {
     let Some((command, rest)) = arguments.split_first() else {
         return Err(Stop::Usage(String::from("no command")));
@@ -108,6 +112,11 @@ fn run(arguments: &[OsString], out: &mut Output) -> Result<bool, Stop> {
             let (kind, seed) = vector_arguments(rest)?;
             write_inputs(kind, seed, out)
         }
+        Some("replies") => {
+            let (kind, seed) = vector_arguments(rest)?;
+            write_replies(kind, seed, out)
+        }
+        Some("compare") => return compare_files(rest, out),
         Some("help" | "--help" | "-h") => writeln!(out, "{}", usage()),
         _ => return Err(Stop::Usage(format!("no command {}", quoted(command)))),
     };
@@ -185,12 +194,40 @@ fn cut_kind(argument: Option<&OsString>) -> Result<Cut, Stop> {
     }
 }
 
+/// Compares the replies in a file; false where they differ.
+fn compare_files(arguments: &[OsString], out: &mut Output) -> Result<bool, Stop> {
+    let [kind, inputs, replies] = arguments else {
+        return Err(Stop::Usage(String::from(
+            "compare takes KIND INPUTS REPLIES",
+        )));
+    };
+    let kind = vector_kind(Some(kind))?;
+    let Some(compared) = compare(kind, &read_file(inputs)?, &read_file(replies)?) else {
+        return Err(Stop::Failed {
+            what: Path::new(inputs).display().to_string(),
+            error: io::Error::new(ErrorKind::InvalidData, "no whole records of that kind"),
+        });
+    };
+    writeln!(out, "{compared}").map_err(failed_write)?;
+    Ok(compared.differences.is_empty())
+}
+
+fn read_file(file: &OsStr) -> Result<Vec<u8>, Stop> {
+    fs::read(file).map_err(|error| Stop::Failed {
+        what: Path::new(file).display().to_string(),
+        error,
+    })
+}
+
+fn vector_kind(argument: Option<&OsString>) -> Result<vectors::Kind, Stop> {
+    let name = argument.map(OsString::as_os_str).unwrap_or_default();
+    let kind = name.to_str().and_then(vectors::Kind::named);
+    kind.ok_or_else(|| Stop::Usage(format!("no kind {}", quoted(name))))
+}
+
 fn vector_arguments(arguments: &[OsString]) -> Result<(vectors::Kind, u64), Stop> {
     let mut rest = arguments.iter();
-    let name = rest.next().map(OsString::as_os_str).unwrap_or_default();
-    let Some(kind) = name.to_str().and_then(vectors::Kind::named) else {
-        return Err(Stop::Usage(format!("no kind {}", quoted(name))));
-    };
+    let kind = vector_kind(rest.next())?;
     let seed = match rest.next() {
         None => vectors::DEFAULT_SEED,
         seed => number(seed, "SEED", u64::MAX)?,

@@ -86,13 +86,46 @@ fn vectors_example_and_help_are_printed() {
         32
     );
     assert_eq!(run(&["inputs", "words", "7"], &[]).stdout.len(), 131_072);
+    assert_eq!(run(&["replies", "encode"], &[]).stdout.len(), 96);
     assert!(!run(&["example"], &[]).stdout.is_empty());
     assert!(run(&["help"], &[]).stdout.starts_with(b"usage: "));
 }
 
 #[test]
+fn replies_in_files_are_compared() {
+    let file = |name: &str, bytes: &[u8]| {
+        let file = std::env::temp_dir().join(format!("independent-{}.{name}", std::process::id()));
+        std::fs::write(&file, bytes).unwrap();
+        file.to_str().unwrap().to_string()
+    };
+    let inputs = file("inputs", &run(&["inputs", "crc5"], &[]).stdout);
+    let mut bytes = run(&["replies", "crc5"], &[]).stdout;
+    let same = file("same", &bytes);
+    bytes[3] ^= 1;
+    let other = file("other", &bytes);
+
+    let output = run(&["compare", "crc5", &inputs, &same], &[]);
+    assert_eq!(output.stdout, b"1132 records compared, 0 differ\n");
+    assert!(output.status.success());
+    let output = run(&["compare", "crc5", &inputs, &other], &[]);
+    let told = String::from_utf8(output.stdout).unwrap();
+    assert!(told.starts_with("record 3 (crc5), byte 0\n"));
+    assert!(told.ends_with("\n1132 records compared, 1 differ\n"));
+    assert_eq!(output.status.code(), Some(1));
+    // inputs that are no records, and a file that is not there
+    for arguments in [["headers", &inputs, &same], ["crc5", "no such file", &same]] {
+        let output = run(&[&["compare"], &arguments[..]].concat(), &[]);
+        assert_eq!(output.status.code(), Some(1));
+        assert!(!output.stderr.is_empty());
+    }
+    for file in [inputs, same, other] {
+        std::fs::remove_file(file).unwrap();
+    }
+}
+
+#[test]
 fn bad_arguments_are_told_with_status_2() {
-    let bad: [&[&str]; 13] = [
+    let bad: [&[&str]; 16] = [
         &[],
         &["lists"],
         &["season"],
@@ -105,6 +138,9 @@ fn bad_arguments_are_told_with_status_2() {
         &["vectors"],
         &["vectors", "nothing"],
         &["inputs", "words", "1", "2"],
+        &["replies"],
+        &["compare", "words", "inputs"],
+        &["compare", "nothing", "inputs", "replies"],
         &["example", "2"],
     ];
     for arguments in bad {

@@ -1,10 +1,18 @@
-//! Vectors: their sizes, and some lines that the paper gives.
+//! Vectors: their sizes, some lines that the paper gives, replies and their comparison.
 
-use independent::vectors::{write_inputs, write_lines, Kind, DEFAULT_SEED, KINDS};
+use independent::vectors::{
+    compare, write_inputs, write_lines, write_replies, Kind, DEFAULT_SEED, KINDS,
+};
 
 fn inputs(kind: Kind, seed: u64) -> Vec<u8> {
     let mut bytes = Vec::new();
     write_inputs(kind, seed, &mut bytes).unwrap();
+    bytes
+}
+
+fn replies(kind: Kind) -> Vec<u8> {
+    let mut bytes = Vec::new();
+    write_replies(kind, DEFAULT_SEED, &mut bytes).unwrap();
     bytes
 }
 
@@ -16,13 +24,20 @@ fn lines(kind: Kind) -> Vec<String> {
     text.lines().map(String::from).collect()
 }
 
+/// The size of a record of each kind, and of a reply.
+const SIZES: [usize; 11] = [2, 1, 2_049, 65, 258, 20, 262, 1_102, 36, 20, 390];
+const REPLY_SIZES: [usize; 11] = [16, 3, 4, 1, 32, 267, 32, 80, 75, 17, 208];
+
 #[test]
-fn every_input_has_its_size_and_its_line() {
-    let sizes = [2, 1, 2_049, 65, 258, 20, 262, 1_102, 36, 20, 390];
-    for ((name, kind), size) in KINDS.into_iter().zip(sizes) {
+fn every_input_has_its_size_its_reply_and_its_line() {
+    for ((name, kind), (size, reply_size)) in
+        KINDS.into_iter().zip(SIZES.into_iter().zip(REPLY_SIZES))
+    {
         assert_eq!(Kind::named(name), Some(kind));
-        let bytes = inputs(kind, DEFAULT_SEED).len();
-        assert_eq!(bytes, size * lines(kind).len(), "{name}");
+        assert_eq!(kind.name(), name);
+        let count = lines(kind).len();
+        assert_eq!(inputs(kind, DEFAULT_SEED).len(), size * count, "{name}");
+        assert_eq!(replies(kind).len(), reply_size * count, "{name}");
     }
     assert_eq!(Kind::named("word"), None);
 }
@@ -109,9 +124,6 @@ fn every_answer_is_among_the_lines() {
     );
     has(Kind::Shown, &["0000000000000000", "nan", "refused 16 0"]);
 }
-
-/// The size of a record of each kind.
-const SIZES: [usize; 11] = [2, 1, 2_049, 65, 258, 20, 262, 1_102, 36, 20, 390];
 
 /// A record and its line.
 type Vector = (Vec<u8>, String);
@@ -231,6 +243,125 @@ fn stored_records_have_the_limits_of_their_kind() {
     assert!([0, 1, 2, 3, 42].into_iter().all(repaired));
 }
 
+/// The reply number `number` of a kind.
+fn reply(kind: Kind, number: usize) -> Vec<u8> {
+    let size = REPLY_SIZES[kind as usize];
+    replies(kind)[size * number..][..size].to_vec()
+}
+
+#[test]
+fn replies_stand_byte_for_byte_as_told() {
+    // 7 becomes 0 with 3 flips, by the table and by the search; 15 is beyond repair.
+    let three_flips = [0, 7, 1, 0, 0, 0, 0, 0, 3, 1, 0, 0, 0, 0, 0, 3];
+    assert_eq!(reply(Kind::Words, 7), three_flips);
+    let beyond = [0, 15, 0, 0, 0, 0, 0, 0, 0, 0, 0, 0, 0, 0, 0, 0];
+    assert_eq!(reply(Kind::Words, 15), beyond);
+    assert_eq!(reply(Kind::Encode, 1), [1, 0x05, 0x37]);
+    assert_eq!(reply(Kind::Crc13, 0), [0, 0, 0x1F, 0xFF]);
+    assert_eq!(reply(Kind::Crc5, 0), [6]);
+    // 1: no element at all; 4: 210 zeros, whose CRC5 is 6
+    let number = |line: &str| {
+        let lines = lines(Kind::Headers);
+        lines.iter().position(|l| l == line).unwrap()
+    };
+    let mut refused = vec![0; 32];
+    refused[0] = 1;
+    assert_eq!(reply(Kind::Headers, number("refused 1 0")), refused);
+    (refused[0], refused[8]) = (4, 6);
+    assert_eq!(reply(Kind::Headers, number("refused 4 6")), refused);
+    // 18: no room; rows of zeros into a room of 34, of which nothing else is left
+    let mut rows = vec![0; 75];
+    rows[0] = 18;
+    assert_eq!(reply(Kind::Rows, 0), rows);
+    (rows[0], rows[10]) = (0, 34);
+    assert_eq!(reply(Kind::Rows, 34 * 8), rows);
+    // one byte more keeps what it held
+    (rows[10], rows[11 + 34]) = (35, 0xA7);
+    assert_eq!(reply(Kind::Rows, 35 * 8), rows);
+}
+
+#[test]
+fn own_replies_do_not_differ() {
+    for (_, kind) in KINDS {
+        let compared = compare(kind, &inputs(kind, DEFAULT_SEED), &replies(kind)).unwrap();
+        assert_eq!(compared.records, lines(kind).len());
+        assert_eq!(compared.differences, Vec::<String>::new());
+        assert!(compared
+            .to_string()
+            .ends_with(" records compared, 0 differ"));
+    }
+}
+
+#[test]
+fn any_other_byte_is_found() {
+    // one reply of each kind, every byte of it changed
+    for ((_, kind), (size, reply_size)) in KINDS.into_iter().zip(SIZES.into_iter().zip(REPLY_SIZES))
+    {
+        let one = &inputs(kind, DEFAULT_SEED)[..size];
+        let own = &replies(kind)[..reply_size];
+        for byte in 0..reply_size {
+            let mut other = own.to_vec();
+            other[byte] ^= 0x10;
+            let compared = compare(kind, one, &other).unwrap();
+            assert_eq!(compared.differences.len(), 1, "{kind:?} {byte}");
+            let place = format!("record 0 ({}), byte {byte}\n", kind.name());
+            assert!(compared.differences[0].starts_with(&place));
+        }
+    }
+}
+
+#[test]
+fn a_difference_tells_both_lines() {
+    let inputs = [0, 7, 0, 15];
+    let mut other = replies(Kind::Words)[16 * 7..][..16].to_vec();
+    other.extend(&replies(Kind::Words)[16 * 14..][..16]);
+    let compared = compare(Kind::Words, &inputs, &other).unwrap();
+    assert_eq!(
+        compared.to_string(),
+        "record 1 (words), byte 1\n  expected: 15 beyond\n  found:    14 0 3\n2 records compared, 1 differ"
+    );
+    // the search says something else than the table
+    other.truncate(16);
+    other[15] = 2;
+    let compared = compare(Kind::Words, &inputs[..2], &other).unwrap();
+    assert!(compared.differences[0].ends_with("found:    7 by table 0 3 by search 0 2"));
+}
+
+#[test]
+fn missing_and_further_replies_are_told() {
+    let inputs = inputs(Kind::Encode, DEFAULT_SEED);
+    let mut other = replies(Kind::Encode);
+    other.truncate(31 * 3 + 1);
+    let compared = compare(Kind::Encode, &inputs, &other).unwrap();
+    assert_eq!(compared.records, 32);
+    assert_eq!(compared.differences.len(), 1);
+    assert!(compared.differences[0].ends_with("found:    1 of 3 bytes"));
+    let mut other = replies(Kind::Encode);
+    other.push(0);
+    let compared = compare(Kind::Encode, &inputs, &other).unwrap();
+    assert_eq!(compared.differences, ["1 bytes after the last reply"]);
+}
+
+#[test]
+fn what_is_no_record_is_not_compared() {
+    assert_eq!(compare(Kind::Words, &[0], &[]), None);
+    assert_eq!(compare(Kind::Stored, &[11, 0], &[]), None);
+    assert_eq!(compare(Kind::Stored, &[200], &[]), None);
+    assert_eq!(compare(Kind::Stored, &[0, 0], &[]), None);
+    assert_eq!(compare(Kind::Stored, &[], &[]).map(|c| c.records), Some(0));
+}
+
+#[test]
+fn lengths_past_their_room_and_more_data_are_cut() {
+    let long = |size: usize| vec![0xFF; size];
+    for ((_, kind), size) in KINDS.into_iter().zip(SIZES) {
+        // whatever the bytes of a record are, it has a reply
+        assert!(compare(kind, &long(size), &[]).is_some());
+    }
+    let first = compare(Kind::Encode, &[33], &[1, 0x05, 0x37]).unwrap();
+    assert!(first.differences.is_empty());
+}
+
 /// FNV-1a of 64 bits.
 fn hash(bytes: &[u8]) -> u64 {
     bytes.iter().fold(0xCBF2_9CE4_8422_2325, |hash, &byte| {
@@ -239,11 +370,13 @@ fn hash(bytes: &[u8]) -> u64 {
 }
 
 #[test]
-fn stored_records_and_lines_are_the_same_everywhere() {
+fn stored_records_replies_and_lines_are_the_same_everywhere() {
     assert_eq!(hash(b"foobar"), 0x8594_4171_F739_67E8);
     let bytes = inputs(Kind::Stored, DEFAULT_SEED);
     let text = lines(Kind::Stored).join("\n") + "\n";
-    assert!(bytes.len() + text.len() <= 2_500_000);
+    let replies = replies(Kind::Stored);
+    assert!(bytes.len() + replies.len() <= 2_500_000);
     assert_eq!(hash(&bytes), 0x7200_F351_72FA_3F6C);
     assert_eq!(hash(text.as_bytes()), 0x2AA7_ABB7_9AAD_01D5);
+    assert_eq!(hash(&replies), 0x4300_1BF6_8BE6_3A5A);
 }

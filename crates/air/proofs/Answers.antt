@@ -1,4 +1,4 @@
--- What the answer of `mend` says: the lowest word beyond repair, or the valid words and their flips.
+-- What the answer of `repair_words` says: the lowest word beyond repair, or the valid words and their flips.
 -- Assumes nothing.
 use mathlib.Core.Path.{_≡_, ap, _∙_}
 use mathlib.Core.Logic.{⊎-elim}
@@ -14,9 +14,9 @@ use Rattle.base.proofs.Tabulate.{tabulate-all}
 use Rattle.word.specs.Words.{wordLimit}
 use Rattle.word.specs.Repairs.{isBeyond, wordOf}
 use Rattle.word.proofs.Answer.{repaired-lt}
-use Rattle.air.specs.declared.Mended.{Mended}
+use Rattle.air.specs.declared.RepairedWords.{RepairedWords}
 use Rattle.air.specs.Air.{wordCount}
-use Rattle.air.specs.Mends.{repairAt, firstBeyond, repairedOf, flipsIn, mendOf}
+use Rattle.air.specs.WordRepairs.{repairAt, firstBeyond, repairedOf, flipsIn, repairWordsOf}
 
 module _ (words : List ℕ) where
   pub beyond-le : firstBeyond words ≤ wordCount
@@ -27,31 +27,31 @@ module _ (words : List ℕ) where
   unfolding repairedOf
   repaired-words = tabulate-all (λ w. w < wordLimit) (λ j. wordOf (repairAt words j)) wordCount (lit< tt) (λ j h. repaired-lt (getD words j 0))
 
-  stopped : firstBeyond words < wordCount → mendOf words ≡ record { words = replicate wordCount 0; flips = 0; beyond = firstBeyond words }
-  unfolding mendOf
+  stopped : firstBeyond words < wordCount → repairWordsOf words ≡ record { words = replicate wordCount 0; flips = 0; beyond = firstBeyond words }
+  unfolding repairWordsOf
   stopped h = rw (lt-ltb (firstBeyond words) wordCount h)
 
-  whole : wordCount ≤ firstBeyond words → mendOf words ≡ record { words = repairedOf words; flips = flipsIn words; beyond = wordCount }
-  unfolding mendOf
+  whole : wordCount ≤ firstBeyond words → repairWordsOf words ≡ record { words = repairedOf words; flips = flipsIn words; beyond = wordCount }
+  unfolding repairWordsOf
   whole h = rw (le-ltb (firstBeyond words) wordCount h)
 
-  pub mend-beyond : (m : Mended) → m ≡ mendOf words → m .beyond ≡ firstBeyond words
-  mend-beyond m is =
-      ⊎-elim (λ (h : firstBeyond words < wordCount). ap (λ (x : Mended). x .beyond) (is ∙ stopped h))
-      (λ (h : wordCount ≤ firstBeyond words). ap (λ (x : Mended). x .beyond) (is ∙ whole h) ∙ omega (arith, beyond-le))
+  pub told-beyond : (m : RepairedWords) → m ≡ repairWordsOf words → m .beyond ≡ firstBeyond words
+  told-beyond m is =
+      ⊎-elim (λ (h : firstBeyond words < wordCount). ap (λ (x : RepairedWords). x .beyond) (is ∙ stopped h))
+      (λ (h : wordCount ≤ firstBeyond words). ap (λ (x : RepairedWords). x .beyond) (is ∙ whole h) ∙ omega (arith, beyond-le))
       (lt-or-ge (firstBeyond words) wordCount)
 
   -- where no word is beyond repair, all are repaired
-  pub record AllRepaired (m : Mended) : Type 0 where
+  pub record AllRepaired (m : RepairedWords) : Type 0 where
     pub none-beyond : firstBeyond words ≡ wordCount
     pub all : m .words ≡ repairedOf words
     pub counted : m .flips ≡ flipsIn words
 
-  pub mend-all : (m : Mended) → m ≡ mendOf words → wordCount ≤ m .beyond → AllRepaired m
-  mend-all m is h =
-      let none : wordCount ≤ firstBeyond words = rw (mend-beyond m is) at h in
+  pub told-all : (m : RepairedWords) → m ≡ repairWordsOf words → wordCount ≤ m .beyond → AllRepaired m
+  told-all m is h =
+      let none : wordCount ≤ firstBeyond words = rw (told-beyond m is) at h in
       record {
         none-beyond = omega (arith, beyond-le);
-        all = ap (λ (x : Mended). x .words) (is ∙ whole none);
-        counted = ap (λ (x : Mended). x .flips) (is ∙ whole none);
+        all = ap (λ (x : RepairedWords). x .words) (is ∙ whole none);
+        counted = ap (λ (x : RepairedWords). x .flips) (is ∙ whole none);
       }

@@ -7,14 +7,16 @@ use native.Mathlib.Omega.{arith}
 use borrow.Author.Tests.{le-leb, lt-ltb}
 use Rattle.base.proofs.Doubles.{many-le}
 use Rattle.base.proofs.Windows.{window, window-few}
-use Rattle.air.specs.Air.{wordCount, positions}
+use Rattle.air.specs.Air.{wordCount}
 use Rattle.air.specs.Flips.{flipsInWord, Burst}
+use Rattle.word.specs.Words.{positions}
+use Rattle.word.specs.Repairs.{radius}
 
-pub burst-few : (start : ℕ) (x y : List ℕ) → Burst start x y → (j : ℕ) → j < wordCount → flipsInWord x y j ≤ 3
+pub burst-few : (start : ℕ) (x y : List ℕ) → Burst start x y → (j : ℕ) → j < wordCount → flipsInWord x y j ≤ radius
 unfolding flipsInWord
 burst-few start x y only j h =
-    let a : ℕ = (start + 13 - j) / 14 in
-    le-trans (many-le positions _ (window a 3) (λ i below e.
+    let a : ℕ = (start + wordCount - 1 - j) / wordCount in
+    le-trans (many-le positions _ (window a radius) (λ i below e.
     let near = only (wordCount * i + j) (omega arith) e in
-    rw (le-leb a i (omega (arith, near .0)), lt-ltb i (a + 3) (omega (arith, near .1)))))
-    (window-few a 3 positions .1)
+    rw (le-leb a i (omega (arith, near .0)), lt-ltb i (a + radius) (omega (arith, near .1)))))
+    (window-few a radius positions .1)

@@ -12,7 +12,8 @@ use mir.Val.{Fits}
 use lib.Pow.{pow-mono}
 use Rattle.base.specs.Lists.{sumTo, AreBits}
 use Rattle.base.proofs.Sums.{sum-none, sum-more, bit-times, made-lt}
-use Rattle.air.specs.Air.{wordCount, positions, wordAt}
+use Rattle.air.specs.Air.{wordCount, wordAt}
+use Rattle.word.specs.Words.{positions}
 
 -- what position i adds to word j
 abbrev pub adds : List ℕ → ℕ → ℕ → ℕ

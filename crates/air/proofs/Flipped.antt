@@ -14,9 +14,9 @@ use Rattle.base.specs.Lists.{sumTo, AreBits}
 use Rattle.base.proofs.Sums.{sum-same}
 use Rattle.base.proofs.OneMore.{many-none}
 use Rattle.base.proofs.Doubles.{sum-blocks, sum-swap}
-use Rattle.word.specs.Words.{distance}
+use Rattle.word.specs.Words.{distance, positions}
 use Rattle.word.proofs.Valids.{distance-places}
-use Rattle.air.specs.Air.{wordCount, positions, airBits, wordAt}
+use Rattle.air.specs.Air.{wordCount, airBits, wordAt}
 use Rattle.air.specs.Flips.{differsAt, flipsBetween, flipsInWord}
 use Rattle.air.proofs.Places.{word-at}
 

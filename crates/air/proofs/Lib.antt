@@ -1,7 +1,7 @@
 pub mod Bits
 pub mod Places
 pub mod Collecting
-pub mod Mending
+pub mod Repairing
 pub mod Answers
 pub mod Restored
 pub mod Flipped

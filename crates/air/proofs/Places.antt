@@ -1,4 +1,4 @@
--- Where bits stand: a word's positions are its air bits, and what is spread on the air is gathered again.
+-- Where bits stand: a word's positions are its air bits, and what is sent is gathered again.
 -- Assumes nothing.
 use mathlib.Core.Path.{_≡_, ap, _∙_}
 use mathlib.Core.List.{List, _++_}
@@ -10,8 +10,8 @@ use lib.ListN.{length, getD, List·getD-append}
 use Rattle.base.specs.Lists.{AreBits}
 use Rattle.base.proofs.Tabulate.{tabulate-length, tabulate-at, tabulate-is, tabulate-all}
 use Rattle.base.proofs.Sums.{sum-same, sum-bits, made-lt, made-at}
-use Rattle.word.specs.Words.{wordLimit}
-use Rattle.air.specs.Air.{wordCount, positions, airBits, wordAt, wordsOf, airBit, airOf}
+use Rattle.word.specs.Words.{wordLimit, positions}
+use Rattle.air.specs.Air.{wordCount, airBits, wordAt, wordsOf, airBit, airOf}
 
 -- the words, one by one
 pub words-at : (air : List ℕ) (j : ℕ) → j < wordCount → getD (wordsOf air) j 0 ≡ wordAt air j

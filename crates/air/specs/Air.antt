@@ -4,17 +4,19 @@ use Prim.Native.Nat.{ℕ, _+_, _*_, _/_, _%_, _^_}
 use mathlib.Core.List.{List}
 use lib.Dec.{ltb}
 use lib.ListN.{length, getD}
+use Rattle.word.specs.Words.{positions}
 use Rattle.base.specs.Lists.{tabulate, sumTo, lowest}
 
--- the header's words, the positions of a word, and the bits of a header on air
+-- the header's words, and its bits on air
 abbrev pub wordCount : ℕ
 wordCount = 14
 
-abbrev pub positions : ℕ
-positions = 15
-
 abbrev pub airBits : ℕ
-airBits = 210
+airBits = wordCount * positions
+
+-- the most bytes of a payload: "the field has 10 bits, so 1,023 is the limit"
+abbrev pub payloadLimit : ℕ
+payloadLimit = 1023
 
 -- position i of word j is air bit 14 i + j: that is the n with n div 14 = i and n mod 14 = j
 unfoldable pub wordAt : List ℕ → ℕ → ℕ

@@ -1,3 +1,4 @@
 pub mod Air
-pub mod Mends
+pub mod WordRepairs
+pub mod Closeness
 pub mod Flips

@@ -1,5 +1,6 @@
 // A header on air: 210 bits to fourteen words and back, and the repair of the fourteen.
 use word::Repaired;
+use word::table::TABLE_ROWS;
 ghost use mathlib.Core.Path.{_≡_};
 ghost use mathlib.Core.List.{_++_, foldl};
 ghost use Prim.Native.Nat.{_/_, _%_, _^_, _<_, _≤_};
@@ -7,14 +8,27 @@ ghost use lib.Bits.{bitOr};
 ghost use lib.ListN.{length, drop};
 ghost use Rattle.base.specs.Lists.{AreBits};
 ghost use Rattle.word.specs.Repairs.{syndromes};
-ghost use Rattle.air.specs.Air.{wordCount, positions, airBits, wordAt, wordsOf, airOf, firstNoBit};
-ghost use Rattle.air.specs.Mends.{mendOf};
+ghost use Rattle.word.specs.Words.{positions};
+ghost use Rattle.air.specs.Air.{wordCount, airBits, wordAt, wordsOf, airOf, firstNoBit};
+ghost use Rattle.air.specs.WordRepairs.{repairWordsOf};
+
+// The words of a header.
+pub const WORD_COUNT: usize = 14;
+
+// The positions of a word.
+const POSITIONS: usize = 15;
+
+// The bits of a header on air.
+pub const AIR_BITS: usize = 210;
+
+// The most bytes of a payload: "the field has 10 bits, so 1,023 is the limit"
+pub const LONGEST_PAYLOAD: usize = 1023;
 
 // Fourteen repaired words with the number of all their flips; or the lowest word beyond repair, and then all else is 0.
-pub struct Mended {
-    pub words: [u16; 14],
+pub struct RepairedWords {
+    pub words: [u16; WORD_COUNT],
     pub flips: u32,
-    // The lowest word beyond repair; 14 where there is none.
+    // The lowest word beyond repair; WORD_COUNT where there is none.
     pub beyond: usize,
 }
 
@@ -65,8 +79,8 @@ fn gather(air: &[u8], j: usize) -> u16
     let mut word: u16 = 0;
     let mut weight: u16 = 1;
     let mut i = 0;
-    while i < 15 {
-        word += air[14 * i + j] as u16 * weight;
+    while i < POSITIONS {
+        word += air[WORD_COUNT * i + j] as u16 * weight;
         weight *= 2;
         i += 1;
     }
@@ -74,14 +88,14 @@ fn gather(air: &[u8], j: usize) -> u16
 }
 
 // The fourteen words of a header's air bits.
-pub fn words(air: &[u8]) -> [u16; 14]
+pub fn words(air: &[u8]) -> [u16; WORD_COUNT]
     requires { ⌜ length (now air) ≡ airBits ⌝ }
     requires { ⌜ AreBits (now air) ⌝ }
     ensures { λ r. ⌜ r ≡ wordsOf (now (air .entry)) ⌝ }
 {
-    let mut all = [0u16; 14];
+    let mut all = [0u16; WORD_COUNT];
     let mut j = 0;
-    while j < 14 {
+    while j < WORD_COUNT {
         all[j] = gather(air, j);
         j += 1;
     }
@@ -97,34 +111,34 @@ fn bit(word: u16, i: usize) -> u8
 }
 
 // The words onto the air. What stands past the 210 bits is kept.
-pub fn spread(words: [u16; 14], out: &mut [u8])
+pub fn send(words: [u16; WORD_COUNT], out: &mut [u8])
     requires { ⌜ airBits ≤ length (now out) ⌝ }
     ensures { λ r. ⌜ now (out .exit) ≡ airOf words ++ drop airBits (now (out .entry)) ⌝ }
 {
     let mut n = 0;
-    while n < 210 {
-        out[n] = bit(words[n % 14], n / 14);
+    while n < AIR_BITS {
+        out[n] = bit(words[n % WORD_COUNT], n / WORD_COUNT);
         n += 1;
     }
 }
 
 // The repair of fourteen words, by a lent copy of the syndrome table.
-pub fn mend(table: &[u16; 1024], words: [u16; 14]) -> Mended
+pub fn repair_words(table: &[u16; TABLE_ROWS], words: [u16; WORD_COUNT]) -> RepairedWords
     requires { ⌜ now table ≡ syndromes ⌝ }
-    ensures { λ r. ⌜ r ≡ mendOf words ⌝ }
+    ensures { λ r. ⌜ r ≡ repairWordsOf words ⌝ }
 {
-    let mut repaired = [0u16; 14];
+    let mut repaired = [0u16; WORD_COUNT];
     let mut total: u32 = 0;
     let mut j = 0;
-    while j < 14 {
+    while j < WORD_COUNT {
         match word::repair_in(table, words[j]) {
             Repaired::Word { word, flips } => {
                 repaired[j] = word;
                 total += flips;
             }
             Repaired::Beyond => {
-                return Mended {
-                    words: [0; 14],
+                return RepairedWords {
+                    words: [0; WORD_COUNT],
                     flips: 0,
                     beyond: j,
                 };
@@ -132,9 +146,9 @@ pub fn mend(table: &[u16; 1024], words: [u16; 14]) -> Mended
         }
         j += 1;
     }
-    Mended {
+    RepairedWords {
         words: repaired,
         flips: total,
-        beyond: 14,
+        beyond: WORD_COUNT,
     }
 }

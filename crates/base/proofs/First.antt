@@ -25,23 +25,19 @@ module _ {A : Type 0} where
   Never a [] = Unit {0}
   Never a (k ∷ ks) = (k .gives ≡ a → ⊥) × Never a ks
 
-  -- what holds of what every row gives, and of `other`, holds of the answer
-  abbrev pub AllGive : (A → Type 0) → List (Check A) → Type 0
-  AllGive P [] = Unit {0}
-  AllGive P (k ∷ ks) = P (k .gives) × AllGive P ks
-
-  pub first-all : (P : A → Type 0) (other : A) (ks : List (Check A)) → P other → AllGive P ks → P (first other ks)
-  first-all P other [] p all = p
-  first-all P other (k ∷ ks) p all = by (first-all P other ks p (all .1)) (k .applies) refl
-    where
-      by : P (first other ks) → (b : Bool) → k .applies ≡ b → P (first other (k ∷ ks))
-      by rest true t = rw t (all .0)
-      by rest false t = rw t rest
-
   -- no row applies
   abbrev pub NoneApplies : List (Check A) → Type 0
   NoneApplies [] = Unit {0}
   NoneApplies (k ∷ ks) = (k .applies ≡ false) × NoneApplies ks
+
+  -- of two tables none applies exactly when none of either does
+  pub none-split : (ks ls : List (Check A)) → NoneApplies (ks ++ ls) → NoneApplies ks × NoneApplies ls
+  none-split [] ls none = (tt, none)
+  none-split (k ∷ ks) ls none = let rest = none-split ks ls (none .1) in ((none .0, rest .0), rest .1)
+
+  pub none-both : (ks ls : List (Check A)) → NoneApplies ks → NoneApplies ls → NoneApplies (ks ++ ls)
+  none-both [] ls none more = more
+  none-both (k ∷ ks) ls none more = (none .0, none-both ks ls (none .1) more)
 
   pub first-none : (other : A) (ks : List (Check A)) → NoneApplies ks → first other ks ≡ other
   first-none other [] none = refl

@@ -1,5 +1,6 @@
 pub mod Tests
 pub mod First
+pub mod Numbers
 pub mod Exactly
 pub mod Tabulate
 pub mod Fill

@@ -1,11 +1,18 @@
 -- From a branch's fact to the test that a definition makes of it, and which of two numbers is the larger.
 -- Assumes nothing.
 use mathlib.Core.Path.{_≡_, refl}
-use mathlib.Core.Bool.{Bool, true, false}
+use mathlib.Core.Bool.{Bool, true, false, not}
 use mathlib.Core.Logic.{_⊎_, inl, inr}
 use Prim.Native.Nat.{ℕ, _≤_, _<_}
-use lib.Dec.{ltb}
-use borrow.Author.Tests.{ltb-true, ltb-false, lt-ltb, le-ltb, le-leb, lt-leb, eq-eqb, ne-eqb}
+use lib.Dec.{ltb, eqb}
+use borrow.Author.Tests.{eqb-true, not-false, ltb-true, ltb-false, lt-ltb, le-ltb, le-leb, lt-leb, eq-eqb, ne-eqb}
+
+-- a test for a difference, and what it says where it fails
+pub differs-not : (a b : ℕ) → a ≡ b → not (eqb a b) ≡ false
+differs-not a b e = rw (eq-eqb a b e)
+
+pub not-differs : (a b : ℕ) → not (eqb a b) ≡ false → a ≡ b
+not-differs a b e = eqb-true a b (not-false (eqb a b) e)
 
 pub ruleset tests = (lt-ltb, le-ltb, le-leb, lt-leb, eq-eqb, ne-eqb)
 

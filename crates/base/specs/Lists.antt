@@ -3,7 +3,8 @@
 use mathlib.Core.Bool.{Bool, cond}
 use mathlib.Core.List.{List, [], _∷_, map}
 use Prim.Native.Nat.{ℕ, zero, suc, _+_, _<_}
-use lib.ListN.{getD}
+use lib.Dec.{eqb}
+use lib.ListN.{length, getD}
 
 -- the n numbers from i on
 abbrev pub count : ℕ → ℕ → List ℕ
@@ -35,3 +36,7 @@ lowestFrom i (suc n) test = cond (test i) i (lowestFrom (suc i) n test)
 -- the lowest number below n that passes the test; n where none does
 unfoldable pub lowest : ℕ → (ℕ → Bool) → ℕ
 lowest n test = lowestFrom 0 n test
+
+-- the place of a number in a list; its length where it has none
+abbrev pub placeIn : List ℕ → ℕ → ℕ
+placeIn l n = lowest (length l) (λ k. eqb n (getD l k 0))

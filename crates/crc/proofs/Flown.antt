@@ -13,33 +13,40 @@ use Rattle.crc.specs.Crc5.{headerBit, filling, countedFlown}
 use Rattle.base.proofs.Bits.{bit-of-low, bit-below, shift-above}
 use Rattle.crc.proofs.Nine.{bitIn, byte-bit, message-header, message-filling}
 
-module _ (n k : ℕ) where
+module _ (n : ℕ) where
+  -- the three parts side by side, the middle one zero
+  pub counted-is : countedFlown n ≡ n / 2 ^ 38 % 2 ^ 32 * 2 ^ 38 + n % 2 ^ 34
+  unfolding countedFlown
+  counted-is = omega arith
+
   low-lt : n % 2 ^ 34 < 2 ^ 38
   low-lt = omega arith
 
-  -- header bits 0 to 31, and from 36 on
-  before : k < 32 → headerBit (countedFlown n) k ≡ headerBit n k
-  unfolding countedFlown
-  before h =
-      let e : 69 - k ≡ 38 + (31 - k) = omega arith in
-      rw e (ap (λ (x : ℕ). x % 2) (shift-above (n / 2 ^ 38) 38 (n % 2 ^ 34) low-lt (31 - k) ∙ shr-shr n 38 (31 - k)))
+  module _ (k : ℕ) where
+    -- header bits 0 to 31, and from 36 on
+    before : k < 32 → headerBit (countedFlown n) k ≡ headerBit n k
+    before h =
+        let e : 69 - k ≡ 38 + (31 - k) = omega arith in
+        rw (counted-is, e)
+        (ap (λ (x : ℕ). x % 2) (shift-above (n / 2 ^ 38 % 2 ^ 32) 38 (n % 2 ^ 34) low-lt (31 - k))
+        ∙ bit-of-low (n / 2 ^ 38) 32 (31 - k) (omega arith) ∙ ap (λ (x : ℕ). x % 2) (shr-shr n 38 (31 - k)))
 
-  after : 36 ≤ k → headerBit (countedFlown n) k ≡ headerBit n k
-  unfolding countedFlown
-  after h =
-      bit-below (n / 2 ^ 38) 38 (n % 2 ^ 34) low-lt (69 - k) (omega arith) ∙ bit-of-low n 34 (69 - k) (omega arith)
+    after : 36 ≤ k → headerBit (countedFlown n) k ≡ headerBit n k
+    after h =
+        rw counted-is
+        (bit-below (n / 2 ^ 38 % 2 ^ 32) 38 (n % 2 ^ 34) low-lt (69 - k) (omega arith) ∙ bit-of-low n 34 (69 - k) (omega arith))
 
-  -- header bits 32 to 35 count as zero
-  pub flown-lost : 32 ≤ k → k < 36 → headerBit (countedFlown n) k ≡ 0
-  unfolding countedFlown
-  flown-lost h l =
-      let e : 69 - k ≡ 34 + (35 - k) = omega arith in
-      bit-below (n / 2 ^ 38) 38 (n % 2 ^ 34) low-lt (69 - k) (omega arith)
-      ∙ rw e (ap (λ (x : ℕ). x % 2) (high-none 34 (35 - k) (n % 2 ^ 34) (mod-lt n (pow-pos 34))))
+    -- header bits 32 to 35 count as zero
+    pub flown-lost : 32 ≤ k → k < 36 → headerBit (countedFlown n) k ≡ 0
+    flown-lost h l =
+        let e : 69 - k ≡ 34 + (35 - k) = omega arith in
+        rw counted-is
+        (bit-below (n / 2 ^ 38 % 2 ^ 32) 38 (n % 2 ^ 34) low-lt (69 - k) (omega arith)
+        ∙ rw e (ap (λ (x : ℕ). x % 2) (high-none 34 (35 - k) (n % 2 ^ 34) (mod-lt n (pow-pos 34)))))
 
-  -- the others count as they are
-  pub flown-kept : (k < 32) ⊎ (36 ≤ k) → headerBit (countedFlown n) k ≡ headerBit n k
-  flown-kept = ⊎-elim before after
+    -- the others count as they are
+    pub flown-kept : (k < 32) ⊎ (36 ≤ k) → headerBit (countedFlown n) k ≡ headerBit n k
+    flown-kept = ⊎-elim before after
 
 -- bit k of the nine bytes' 72, by the flown rule
 pub record FlownBit (n k bit : ℕ) : Type 0 where

@@ -2,6 +2,6 @@ pub mod Loop
 pub mod Width
 pub mod Linear
 pub mod Nine
-pub mod TwoNumbers
 pub mod Flown
+pub mod TwoNumbers
 pub mod Unseen

@@ -19,7 +19,7 @@ messageBit n k = message n / 2 ^ (71 - k) % 2
 abbrev pub bitIn : ℕ → ℕ → ℕ → ℕ
 bitIn n i t = getD (bitsOf 8 (getD (nineBytes n) i 0)) t 0
 
-byte-shift : (i t : ℕ) → i < 9 → t < 8 → 71 - (8 * i + t) ≡ (64 - 8 * i) + (7 - t)
+byte-shift : (i t : ℕ) → i < 9 → t < 8 → 71 - (8 * i + t) ≡ (8 * (8 - i)) + (7 - t)
 byte-shift i t hi ht = omega arith
 
 -- bit t of byte i is bit 8 i + t of the message
@@ -27,7 +27,7 @@ pub byte-bit : (n i t : ℕ) → i < 9 → t < 8 → bitIn n i t ≡ messageBit 
 unfolding nineBytes
 byte-bit n i t hi ht =
     tabulate-at _ 0 8 t ht ∙ ap (λ (b : ℕ). b / 2 ^ (7 - t) % 2) (tabulate-at _ 0 9 i hi)
-    ∙ bit-of-low (message n / 2 ^ (64 - 8 * i)) 8 (7 - t) (omega arith) ∙ rw (byte-shift i t hi ht, shr-shr)
+    ∙ bit-of-low (message n / 2 ^ (8 * (8 - i))) 8 (7 - t) (omega arith) ∙ rw (byte-shift i t hi ht, shr-shr)
 
 -- header bits 0 to 64 are those of the upper 65 bits
 pub header-above : (n k : ℕ) → k < 65 → headerBit n k ≡ n / 2 ^ 5 / 2 ^ (64 - k) % 2

@@ -10,11 +10,9 @@ use lib.Pow.{shr-shr}
 use Rattle.base.proofs.Tabulate.{tabulate-length, tabulate-at}
 use Rattle.base.proofs.Fold.{Downward, down-starts, down-goes-on}
 use Rattle.crc.specs.Crc5.{filling, message, nineBytes, poly5, start5, crc5Over, countedFlown, crc5Of}
+use Rattle.crc.specs.Halves.{headerBits}
 use Rattle.crc.proofs.Loop.{crcByte, down-bytes}
-
--- the header's 70 bits
-abbrev pub wholeOf : ℕ → ℕ → ℕ
-wholeOf hi lo = hi * 2 ^ 40 + lo
+use Rattle.crc.proofs.Flown.{counted-is}
 
 -- byte 8: header bit 64 and the filling
 abbrev pub lastOf : ℕ → ℕ
@@ -28,39 +26,39 @@ nine-length : (n : ℕ) → length (nineBytes n) ≡ 9
 unfolding nineBytes
 nine-length n = tabulate-length _ 9
 
-one-before : (i : ℕ) → 0 < i → i ≤ 8 → 64 - 8 * (i - 1) ≡ 8 + (64 - 8 * i)
+one-before : (i : ℕ) → 0 < i → i ≤ 8 → 8 * (8 - (i - 1)) ≡ 8 + (8 * (8 - i))
 one-before i h l = omega arith
 
 -- byte 8 is in, and of the eight those from i on, the last first
 pub record NineIn (hi lo i crc : ℕ) : Type 0 where
   pub inside : i ≤ 8
-  pub done : Downward (crcByte 5 poly5) start5 (nineBytes (wholeOf hi lo)) i crc
+  pub done : Downward (crcByte 5 poly5) start5 (nineBytes (headerBits hi lo)) i crc
 
 module _ (hi lo : ℕ) (small : lo < 2 ^ 40) where
   -- byte 8, and byte i - 1 of the eight
-  last-is : getD (nineBytes (wholeOf hi lo)) 8 0 ≡ lastOf lo
+  last-is : getD (nineBytes (headerBits hi lo)) 8 0 ≡ lastOf lo
   unfolding nineBytes message
   last-is = tabulate-at _ 0 9 8 (lit< tt) ∙ rw div-one (omega arith)
 
-  eight-are : message (wholeOf hi lo) / 2 ^ 8 ≡ eightOf hi lo
+  eight-are : message (headerBits hi lo) / 2 ^ 8 ≡ eightOf hi lo
   unfolding message
   eight-are = omega arith
 
-  byte-is : (i : ℕ) → 0 < i → i ≤ 8 → getD (nineBytes (wholeOf hi lo)) (i - 1) 0 ≡ eightOf hi lo / 2 ^ (64 - 8 * i) % 256
+  byte-is : (i : ℕ) → 0 < i → i ≤ 8 → getD (nineBytes (headerBits hi lo)) (i - 1) 0 ≡ eightOf hi lo / 2 ^ (8 * (8 - i)) % 256
   unfolding nineBytes
   byte-is i h l = tabulate-at _ 0 9 (i - 1) (omega arith) ∙ rw (one-before i h l, ← shr-shr, eight-are)
 
   -- the loop from the last byte to the first
   pub nine-starts : (crc : ℕ) → crc ≡ crcByte 5 poly5 start5 (lastOf lo) → NineIn hi lo 8 crc
   nine-starts crc e =
-      let none = rw (nine-length (wholeOf hi lo)) at (down-starts (crcByte 5 poly5) start5 (nineBytes (wholeOf hi lo))) in
+      let none = rw (nine-length (headerBits hi lo)) at (down-starts (crcByte 5 poly5) start5 (nineBytes (headerBits hi lo))) in
       record {
         inside = lit≤ tt;
         done = down-goes-on (crcByte 5 poly5) start5 _ 9 start5 0 none (lit< tt) crc (e ∙ ap (crcByte 5 poly5 start5) (sym last-is));
       }
 
   pub nine-goes-on : (i crc : ℕ) → NineIn hi lo i crc → 0 < i
-      → (next : ℕ) → next ≡ crcByte 5 poly5 crc (eightOf hi lo / 2 ^ (64 - 8 * i) % 256) → NineIn hi lo (i - 1) next
+      → (next : ℕ) → next ≡ crcByte 5 poly5 crc (eightOf hi lo / 2 ^ (8 * (8 - i)) % 256) → NineIn hi lo (i - 1) next
   nine-goes-on i crc so h next e =
       let byte = sym (byte-is i h (so .inside)) in
       record {
@@ -68,20 +66,21 @@ module _ (hi lo : ℕ) (small : lo < 2 ^ 40) where
         done = down-goes-on (crcByte 5 poly5) start5 _ i crc 0 (so .done) h next (e ∙ ap (crcByte 5 poly5 crc) byte);
       }
 
-  pub nine-ends : (i crc : ℕ) → NineIn hi lo i crc → i ≤ 0 → crc ≡ crc5Over (wholeOf hi lo)
+  pub nine-ends : (i crc : ℕ) → NineIn hi lo i crc → i ≤ 0 → crc ≡ crc5Over (headerBits hi lo)
   unfolding crc5Over
-  nine-ends i crc so h = down-bytes 5 poly5 start5 (nineBytes (wholeOf hi lo)) i crc (so .done) h
+  nine-ends i crc so h = down-bytes 5 poly5 start5 (nineBytes (headerBits hi lo)) i crc (so .done) h
 
 -- the flown rule changes the lower number only
 module _ (lo counted : ℕ) (small : lo < 2 ^ 40) (is : counted ≡ countedFlown lo) where
   pub counted-lt : counted < 2 ^ 40
-  unfolding countedFlown
-  counted-lt = omega arith
+  counted-lt = rw (is, counted-is lo) (omega arith)
 
-  lower-only : (hi : ℕ) → wholeOf hi counted ≡ countedFlown (wholeOf hi lo)
-  unfolding countedFlown
-  lower-only hi = omega arith
+  lower-only : (hi : ℕ) → hi < 2 ^ 30 → headerBits hi counted ≡ countedFlown (headerBits hi lo)
+  lower-only hi h =
+      let first : headerBits hi lo / 2 ^ 38 % 2 ^ 32 ≡ hi * 4 + lo / 2 ^ 38 % 2 ^ 32 = omega arith in
+      let last : headerBits hi lo % 2 ^ 34 ≡ lo % 2 ^ 34 = omega arith in
+      rw (is, counted-is lo, counted-is (headerBits hi lo), first, last) (omega arith)
 
-  pub counted-in : (hi crc : ℕ) → crc ≡ crc5Over (wholeOf hi counted) → crc ≡ crc5Of (wholeOf hi lo)
+  pub counted-in : (hi crc : ℕ) → hi < 2 ^ 30 → crc ≡ crc5Over (headerBits hi counted) → crc ≡ crc5Of (headerBits hi lo)
   unfolding crc5Of
-  counted-in hi crc e = e ∙ ap crc5Over (lower-only hi)
+  counted-in hi crc h e = e ∙ ap crc5Over (lower-only hi h)

@@ -28,11 +28,11 @@ module _ (n m : ℕ) where
   unfolding crc5Over nineBytes
   over-same same =
       ap (λ (l : List ℕ). crcOf 5 poly5 start5 (bitsOfBytes (reverse l)))
-      (tabulate-same _ _ 9 (λ i h. same-bits 8 (message n / 2 ^ (64 - 8 * i)) (message m / 2 ^ (64 - 8 * i)) (bits i h)))
+      (tabulate-same _ _ 9 (λ i h. same-bits 8 (message n / 2 ^ (8 * (8 - i))) (message m / 2 ^ (8 * (8 - i))) (bits i h)))
     where
-      bits : (i : ℕ) → i < 9 → (q : ℕ) → q < 8 → message n / 2 ^ (64 - 8 * i) / 2 ^ q % 2 ≡ message m / 2 ^ (64 - 8 * i) / 2 ^ q % 2
+      bits : (i : ℕ) → i < 9 → (q : ℕ) → q < 8 → message n / 2 ^ (8 * (8 - i)) / 2 ^ q % 2 ≡ message m / 2 ^ (8 * (8 - i)) / 2 ^ q % 2
       bits i h q l =
-          let e : 71 - (7 + 8 * i - q) ≡ (64 - 8 * i) + q = omega arith in
+          let e : 71 - (7 + 8 * i - q) ≡ (8 * (8 - i)) + q = omega arith in
           rw (shr-shr (message n), shr-shr (message m)) (rw e at (message-same same (7 + 8 * i - q) (omega arith)))
 
 -- by the flown rule bits 32 to 35 are not in it either

@@ -11,9 +11,12 @@ use Rattle.base.specs.Lists.{tabulate}
 abbrev pub bitsOf : ℕ → ℕ → List ℕ
 bitsOf w n = tabulate w (λ t. n / 2 ^ (w - 1 - t) % 2)
 
+abbrev pub byteBits : ℕ
+byteBits = 8
+
 -- the bits of bytes, the first byte first, "each most significant bit first"
 abbrev pub bitsOfBytes : List ℕ → List ℕ
-bitsOfBytes bytes = flatMap (bitsOf 8) bytes
+bitsOfBytes bytes = flatMap (bitsOf byteBits) bytes
 
 -- one bit into a checksum: it moves up by one within its width, and the polynomial (x^width implied) is added where the
 -- top bit differs from the data bit. Table 3 of document 001, to the letter, adds it where either of the two is set;

@@ -1,13 +1,19 @@
 -- CRC5 of a header, whose 70 bits are one number: header bit 0 is the most significant.
 -- Assumes nothing.
-use mathlib.Core.List.{List, reverse}
+use mathlib.Core.List.{List, [], _∷_, reverse}
 use Prim.Native.Nat.{ℕ, _+_, _-_, _*_, _/_, _%_, _^_}
+use lib.ListN.{set}
 use Rattle.base.specs.Lists.{tabulate}
-use Rattle.crc.specs.Crc.{crcOf, bitsOfBytes}
+use Rattle.base.specs.Parts.{partsOf, joined}
+use Rattle.crc.specs.Crc.{byteBits, crcOf, bitsOfBytes}
+
+-- "70 bits, numbered from 0"
+abbrev pub headerWidth : ℕ
+headerWidth = 70
 
 -- header bit k
 abbrev pub headerBit : ℕ → ℕ → ℕ
-headerBit n k = n / 2 ^ (69 - k) % 2
+headerBit n k = n / 2 ^ (headerWidth - 1 - k) % 2
 
 -- "CRC5: polynomial 0x15 (x^5 implied), start 0x1F, no final change."
 abbrev pub poly5 : ℕ
@@ -20,22 +26,27 @@ start5 = 0x1F
 abbrev pub filling : ℕ
 filling = 0b1011011
 
+-- CRC5's own five bits give way to the seven of the filling
 unfoldable pub message : ℕ → ℕ
 message n = n / 2 ^ 5 * 2 ^ 7 + filling
 
--- ".. make nine bytes"
+-- ".. make nine bytes": byte i has 8 - i below it
 unfoldable pub nineBytes : ℕ → List ℕ
-nineBytes n = tabulate 9 (λ i. message n / 2 ^ (64 - 8 * i) % 256)
+nineBytes n = tabulate 9 (λ i. message n / 2 ^ (byteBits * (8 - i)) % 2 ^ byteBits)
 
 -- "they go in from the last byte to the first, each most significant bit first": CRC5 of the header bits that count
 unfoldable pub crc5Over : ℕ → ℕ
 crc5Over counted = crcOf 5 poly5 start5 (bitsOfBytes (reverse (nineBytes counted)))
 
+-- the header in three parts: bits 0 to 31, bits 32 to 35, bits 36 to 69
+abbrev pub flownWidths : List ℕ
+flownWidths = 32 ∷ 4 ∷ 34 ∷ []
+
 -- "Flown rule: the S-NET satellites lose part of byte 4, so header bits 32 to 35 (low two bits of AiTypeDst, and DfcId)
--- count as zero in CRC5." The rest of byte 4 is used: "The printed listing shows no break after byte 4; that is a
--- misprint, and byte 4 is used."
+-- count as zero in CRC5." So part 1 of the three, from 0, is set to 0. The rest of byte 4 is used: "The printed listing
+-- shows no break after byte 4; that is a misprint, and byte 4 is used."
 unfoldable pub countedFlown : ℕ → ℕ
-countedFlown n = n / 2 ^ 38 * 2 ^ 38 + n % 2 ^ 34
+countedFlown n = joined flownWidths (set (partsOf flownWidths n) 1 0)
 
 unfoldable pub crc5Of : ℕ → ℕ
 crc5Of n = crc5Over (countedFlown n)

@@ -1,2 +1,3 @@
 pub mod Crc
 pub mod Crc5
+pub mod Halves

@@ -1,28 +1,41 @@
 // Checksums, bit by bit: CRC13 of a payload and CRC5 of a header.
 ghost use mathlib.Core.Path.{_≡_};
 ghost use Prim.Native.Nat.{_+_, _*_, _<_, _^_};
-ghost use Rattle.crc.specs.Crc.{crcStep, crcOf, bitsOf, poly13, crc13Of};
+ghost use Rattle.crc.specs.Crc.{crcStep, crcOf, byteBits, bitsOf, poly13, crc13Of};
 ghost use Rattle.crc.specs.Crc5.{poly5, countedFlown, crc5Over, crc5Of};
+ghost use Rattle.crc.specs.Halves.{hiWidth, loWidth, headerBits};
+
+const BYTE_BITS: u8 = 8;
 
 // CRC13. The polynomial's x^13 is implied.
 const POLY13: u16 = 0x1CF5;
 
 const START13: u16 = 0x1FFF;
 
+// The weight of its top bit.
+const TOP13: u16 = 0x1000;
+
 // CRC5. The polynomial's x^5 is implied.
 const POLY5: u8 = 0x15;
 
 const START5: u8 = 0x1F;
 
+const TOP5: u8 = 0x10;
+
 // What follows header bit 64.
 const FILLING: u64 = 0b1011011;
+
+// The weights of header bits 31 and 35.
+const BIT_31: u64 = 0x40_0000_0000;
+
+const BIT_35: u64 = 0x4_0000_0000;
 
 // One bit. Each width has a step and a byte of its own: with width and polynomial as parameters they take three times as long.
 fn step13(crc: u16, bit: u8) -> u16
     ensures { λ r. ⌜ r ≡ crcStep 13 poly13 crc bit ⌝ }
 {
-    let moved = crc % 0x1000 * 2;
-    if crc / 0x1000 != bit as u16 {
+    let moved = crc % TOP13 * 2;
+    if crc / TOP13 != bit as u16 {
         return moved ^ POLY13;
     }
     moved
@@ -30,12 +43,12 @@ fn step13(crc: u16, bit: u8) -> u16
 
 // A byte, its most significant bit first.
 fn byte13(crc: u16, byte: u8) -> u16
-    ensures { λ r. ⌜ r ≡ crcOf 13 poly13 crc (bitsOf 8 byte) ⌝ }
+    ensures { λ r. ⌜ r ≡ crcOf 13 poly13 crc (bitsOf byteBits byte) ⌝ }
 {
     let mut state = crc;
     let mut t: u8 = 0;
-    while t < 8 {
-        state = step13(state, (byte >> (7 - t)) % 2);
+    while t < BYTE_BITS {
+        state = step13(state, (byte >> (BYTE_BITS - 1 - t)) % 2);
         t += 1;
     }
     state
@@ -58,38 +71,40 @@ pub fn crc13(payload: &[u8]) -> u16
 fn step5(crc: u8, bit: u8) -> u8
     ensures { λ r. ⌜ r ≡ crcStep 5 poly5 crc bit ⌝ }
 {
-    let moved = crc % 0x10 * 2;
-    if crc / 0x10 != bit {
+    let moved = crc % TOP5 * 2;
+    if crc / TOP5 != bit {
         return moved ^ POLY5;
     }
     moved
 }
 
 fn byte5(crc: u8, byte: u8) -> u8
-    ensures { λ r. ⌜ r ≡ crcOf 5 poly5 crc (bitsOf 8 byte) ⌝ }
+    ensures { λ r. ⌜ r ≡ crcOf 5 poly5 crc (bitsOf byteBits byte) ⌝ }
 {
     let mut state = crc;
     let mut t: u8 = 0;
-    while t < 8 {
-        state = step5(state, (byte >> (7 - t)) % 2);
+    while t < BYTE_BITS {
+        state = step5(state, (byte >> (BYTE_BITS - 1 - t)) % 2);
         t += 1;
     }
     state
 }
 
-// CRC5 of the header bits that count, from the last byte to the first: `hi` is header bits 0 to 29, `lo` header bits 30 to 69.
+// CRC5 of the header bits that count, from the last byte to the first. A header of 70 bits is two numbers, since no number of Rattle
+// has as many: `hi` is header bits 0 to 29, `lo` header bits 30 to 69. No field crosses bit 30.
 fn crc5_over(hi: u64, lo: u64) -> u8
-    requires { ⌜ hi < 2 ^ 30 ⌝ }
-    requires { ⌜ lo < 2 ^ 40 ⌝ }
-    ensures { λ r. ⌜ r ≡ crc5Over (hi * 2 ^ 40 + lo) ⌝ }
+    requires { ⌜ hi < 2 ^ hiWidth ⌝ }
+    requires { ⌜ lo < 2 ^ loWidth ⌝ }
+    ensures { λ r. ⌜ r ≡ crc5Over (headerBits hi lo) ⌝ }
 {
-    // Byte 8 is header bit 64 and the filling; bytes 0 to 7 are header bits 0 to 63.
+    // Byte 8 is header bit 64 (bit 5 of `lo`) and the filling; bytes 0 to 7 are header bits 0 to 63.
     let last = lo / 0x20 % 2 * 0x80 + FILLING;
     let eight = hi * 0x4_0000_0000 + lo / 0x40;
     let mut crc = byte5(START5, last as u8);
     let mut i: u64 = 8;
     while 0 < i {
-        crc = byte5(crc, ((eight >> (64 - 8 * i)) % 0x100) as u8);
+        // Below byte i - 1 of the eight stand 8 - i.
+        crc = byte5(crc, ((eight >> (8 * (8 - i))) % 0x100) as u8);
         i -= 1;
     }
     crc
@@ -99,14 +114,14 @@ fn crc5_over(hi: u64, lo: u64) -> u8
 fn counted_flown(lo: u64) -> u64
     ensures { λ r. ⌜ r ≡ countedFlown lo ⌝ }
 {
-    lo / 0x40_0000_0000 * 0x40_0000_0000 + lo % 0x4_0000_0000
+    lo / BIT_31 * BIT_31 + lo % BIT_35
 }
 
 // CRC5 of a header, by the flown rule.
 pub fn crc5(hi: u64, lo: u64) -> u8
-    requires { ⌜ hi < 2 ^ 30 ⌝ }
-    requires { ⌜ lo < 2 ^ 40 ⌝ }
-    ensures { λ r. ⌜ r ≡ crc5Of (hi * 2 ^ 40 + lo) ⌝ }
+    requires { ⌜ hi < 2 ^ hiWidth ⌝ }
+    requires { ⌜ lo < 2 ^ loWidth ⌝ }
+    ensures { λ r. ⌜ r ≡ crc5Of (headerBits hi lo) ⌝ }
 {
     crc5_over(hi, counted_flown(lo))
 }

@@ -4,7 +4,7 @@
 -- exactly when its row of the table applies and no row before it does, and a refused call changes nothing.
 -- Assumes nothing.
 use mathlib.Core.Path.{_≡_, ap, _∙_}
-use mathlib.Core.List.{List, _++_}
+use mathlib.Core.List.{List}
 use Prim.Native.Nat.{ℕ, _≤_, _<_}
 use lib.IntN.{ℤ}
 use lib.ListN.{length}
@@ -14,7 +14,7 @@ use Rattle.header.specs.declared.Fields.{Fields}
 use Rattle.header.specs.declared.Answer.the-variants.{Refused}
 use Rattle.base.specs.declared.Written.{Written}
 use Rattle.base.specs.declared.Written.the-variants.{Refused as NotWritten}
-use Rattle.header.specs.Reading.{repairedBits, airChecks, headerChecks, readHeaderOf}
+use Rattle.header.specs.Reading.{Signal, signalChecks, readHeaderOf}
 use Rattle.header.specs.Writing.{writeChecks, writeHeaderOf, afterWrite, HeaderWritten}
 use Rattle.header.proofs.Given.{read-exactly, write-exactly}
 use Rattle.page.specs.declared.scaling.Scaling.{Scaling}
@@ -24,20 +24,24 @@ use Rattle.page.specs.Payload.{noPage, pageChecks, pageOf}
 use Rattle.page.specs.Rows.{rowsChecks, writeOf, PageWritten}
 use Rattle.page.specs.Shown.{shownChecks, shownOf}
 use Rattle.page.proofs.Given.{page-exactly, shown-exactly, rows-exactly, rows-unchanged}
-use Rattle.frame.specs.Frames.{frameChecks, frameOf}
+use Rattle.frame.specs.Frames.{Frame, frameChecks, frameOf}
 use Rattle.frame.proofs.Rules.{refused-exactly}
 use Rattle.sheet.specs.declared.Sheet.{Sheet}
-use Rattle.sheet.specs.declared.Offered.{Offered}
-use Rattle.sheet.specs.Sheets.{heardOf, fullSheet, offerOf}
-use Rattle.sheet.proofs.Refusals.{room-takes, full-refuses, only-17, refused-keeps}
+use Rattle.sheet.specs.Sheets.{heardOf, fullSheet, offerChecks, offerOf}
+use Rattle.sheet.proofs.Offering.{answers-frame, full-refuses}
+use Rattle.sheet.proofs.Refusals.{offered-exactly, refused-keeps}
 
 -- 1 to 6
-pub header-refused-exactly : (air : List ℕ) (why : Refusal) → Exactly (readHeaderOf air) (Refused why) (airChecks air ++ headerChecks (repairedBits air))
+pub header-refused-exactly : (s : Signal) (why : Refusal) → Exactly (readHeaderOf s) (Refused why) (signalChecks s)
 header-refused-exactly = read-exactly
 
 -- 1 to 8
-pub frame-refused-exactly : (air payload : List ℕ) (why : Refusal) → Exactly (frameOf air payload) (Refused why) (frameChecks air payload)
+pub frame-refused-exactly : (f : Frame) (why : Refusal) → Exactly (frameOf f) (Refused why) (frameChecks f)
 frame-refused-exactly = refused-exactly
+
+-- 17, and then 1 to 8
+pub offer-refused-exactly : (sheet : Sheet) (f : Frame) (why : Refusal) → Exactly (offerOf sheet f .answer) (Refused why) (offerChecks sheet f)
+offer-refused-exactly = offered-exactly
 
 -- 13 to 15
 pub write-refused-exactly : (f : Fields) (payload : List ℕ) (room : ℕ) (why : Refusal) → Exactly (writeHeaderOf f payload room) (NotWritten why) (writeChecks f payload room)
@@ -64,18 +68,14 @@ rows-refused-exactly = rows-exactly
 pub rows-refused-unchanged : (rows : List ℤ) (before after : List ℕ) (r : Written) (why : Refusal) → PageWritten rows before after r → r ≡ NotWritten why → after ≡ before
 rows-refused-unchanged = rows-unchanged
 
--- 17: "sheet full, checked before anything else, sheet unchanged (place 65,535)", exactly when the sum is 65,535 or more
-pub offer-refused-full : (sheet : Sheet) (air payload : List ℕ) → fullSheet ≤ heardOf sheet
-    → offerOf sheet air payload ≡ record { answer = Refused (refusal 17 fullSheet); sheet = sheet }
-offer-refused-full sheet air payload many = full-refuses sheet many air payload
+-- 17: "sheet full, checked before anything else, sheet unchanged (place 65,535)"
+pub offer-refused-full : (sheet : Sheet) (f : Frame) → fullSheet ≤ heardOf sheet → offerOf sheet f ≡ record { answer = Refused (refusal 17 fullSheet); sheet = sheet }
+offer-refused-full = full-refuses
 
-pub offer-refused-only-full : (sheet : Sheet) (air payload : List ℕ) → offerOf sheet air payload .answer ≡ Refused (refusal 17 fullSheet) → fullSheet ≤ heardOf sheet
-offer-refused-only-full = only-17
-
--- before that the sheet gives the frame's own answer, so 1 to 8 are given as above
-pub offer-answers : (sheet : Sheet) (air payload : List ℕ) → heardOf sheet < fullSheet → offerOf sheet air payload .answer ≡ frameOf air payload
-offer-answers sheet air payload room = ap (λ (o : Offered). o .answer) (room-takes sheet room air payload)
+-- before that the sheet gives the frame's own answer
+pub offer-answers : (sheet : Sheet) (f : Frame) → heardOf sheet < fullSheet → offerOf sheet f .answer ≡ frameOf f
+offer-answers = answers-frame
 
 -- and an offered frame that is refused, whatever the number, leaves the frame records as they were
-pub offer-refused-unchanged : (sheet : Sheet) (air payload : List ℕ) (why : Refusal) → offerOf sheet air payload .answer ≡ Refused why → offerOf sheet air payload .sheet .sources ≡ sheet .sources
+pub offer-refused-unchanged : (sheet : Sheet) (f : Frame) (why : Refusal) → offerOf sheet f .answer ≡ Refused why → offerOf sheet f .sheet .sources ≡ sheet .sources
 offer-refused-unchanged = refused-keeps

@@ -9,8 +9,8 @@ use lib.Dec.{leb, eqb}
 use lib.ListN.{length, getD, take}
 use Rattle.base.specs.Checks.{refusal}
 use Rattle.base.specs.Lists.{AreBits, howMany}
-use Rattle.word.specs.Words.{wordLimit}
-use Rattle.word.specs.Repairs.{repairOf, remainderOf, syndromes, rowOf, byRow, mark}
+use Rattle.word.specs.Words.{wordLimit, positions}
+use Rattle.word.specs.Repairs.{repairOf, remainderOf, syndromes, rowOf, byRow, mark, radius, tableRows}
 use Rattle.word.proofs.Rows.{rows-with-pattern, rows-marked}
 use Rattle.word.proofs.Answer.{table-answers}
 use Rattle.air.specs.Air.{wordCount, airBits}
@@ -19,36 +19,36 @@ use Rattle.header.specs.declared.Fields.{Fields}
 use Rattle.header.specs.declared.Answer.the-variants.{Accepted, Refused}
 use Rattle.base.specs.declared.Written.the-variants.{Done}
 use Rattle.header.specs.Writing.{headerFor, HeaderWritten}
-use Rattle.header.proofs.WrittenAir.{Taken, taken}
-use Rattle.frame.specs.Frames.{frameOf}
-use Rattle.frame.specs.Zeros.{sentZeros, burstZeros}
+use Rattle.header.proofs.WrittenAir.{Put, written as put}
+use Rattle.frame.specs.Frames.{frame, frameOf}
 use Rattle.frame.proofs.Damage.{restored-frame, restored-burst}
-use Rattle.frame.proofs.Limit.{burst-of-43}
+use Rattle.demands.specs.Zeros.{sentZeros, burstZeros}
+use Rattle.demands.proofs.LongBurst.{burst-of-43}
 
 -- "The repair table .. equals trying all 32 valid words on each of the 32,768 words": `repairOf` tries the words, `byRow` takes the row
 pub table-equals-search : (w : ℕ) → w < wordLimit → repairOf w ≡ byRow w (getD syndromes (remainderOf w) 0)
 table-equals-search = table-answers
 
 -- "1,024 rows, 576 with a flip pattern of at most three bits, 448 marked as beyond repair"
-pub table-rows : (howMany 1024 (λ r. leb (onesIn 15 (rowOf r)) 3) ≡ 576) × (howMany 1024 (λ r. eqb (rowOf r) mark) ≡ 448)
+pub table-rows : (howMany tableRows (λ r. leb (onesIn positions (rowOf r)) radius) ≡ 576) × (howMany tableRows (λ r. eqb (rowOf r) mark) ≡ 448)
 table-rows = (rows-with-pattern, rows-marked)
 
 -- the writer was handed some fields, a payload and an output, and wrote; on the way some of the 210 bits were flipped
 module _ (f : Fields) (payload before after : List ℕ) (written : HeaderWritten f payload before Done after)
     (air : List ℕ) (long : length air ≡ airBits) (bits : AreBits air) where
-  so : Taken f payload after
-  so = taken f payload before after written
+  so : Put f payload after
+  so = put f payload before after written
 
   -- "a written header with at most three flips in each word .. reads back as that very header with the exact number of flips"
-  pub three-in-each-word : ((j : ℕ) → j < wordCount → flipsInWord air (take airBits after) j ≤ 3)
-      → frameOf air payload ≡ Accepted (headerFor f payload) (flipsBetween air (take airBits after))
-  three-in-each-word = rw (so .air) (restored-frame f payload air bits (so .ranges) (so .short) long)
+  pub three-in-each-word : ((j : ℕ) → j < wordCount → flipsInWord air (take airBits after) j ≤ radius)
+      → frameOf (frame air payload) ≡ Accepted (headerFor f payload) (flipsBetween air (take airBits after))
+  three-in-each-word = rw (so .air) (restored-frame f payload air bits (so .writable) long)
 
   -- "or a burst of up to 42 neighbouring bits"
   pub burst-of-42 : (start : ℕ) → Burst start air (take airBits after)
-      → frameOf air payload ≡ Accepted (headerFor f payload) (flipsBetween air (take airBits after))
-  burst-of-42 = rw (so .air) (restored-burst f payload air bits (so .ranges) (so .short) long)
+      → frameOf (frame air payload) ≡ Accepted (headerFor f payload) (flipsBetween air (take airBits after))
+  burst-of-42 = rw (so .air) (restored-burst f payload air bits (so .writable) long)
 
 -- 42 is the limit: a header of zeros whose first 43 bits are flipped is refused
-pub not-43 : (flipsBetween (burstZeros 43) sentZeros ≡ 43) × (flipsInWord (burstZeros 43) sentZeros 0 ≡ 4) × (frameOf (burstZeros 43) [] ≡ Refused (refusal 3 0))
+pub not-43 : (flipsBetween (burstZeros 43) sentZeros ≡ 43) × (flipsInWord (burstZeros 43) sentZeros 0 ≡ 4) × (frameOf (frame (burstZeros 43) []) ≡ Refused (refusal 3 0))
 not-43 = burst-of-43

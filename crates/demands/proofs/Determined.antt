@@ -1,5 +1,6 @@
--- "Show by proof that any two answers allowed by it coincide": one theorem for each outside function. Each premise
--- is the function's `ensures`, word for word.
+-- "Show by proof that any two answers allowed by it coincide": one theorem for each outside function. Its premises are the
+-- function's `ensures`, word for word (the gate compares them), of two answers r and s: an argument has its name in the code, and
+-- what a lent `out` holds afterwards is `out-r` beside r and `out-s` beside s.
 -- Assumes nothing.
 use mathlib.Core.Path.{_≡_, sym, ap, _∙_}
 use mathlib.Core.Bool.{Bool}
@@ -14,16 +15,16 @@ use Rattle.header.specs.declared.Fields.{Fields}
 use Rattle.header.specs.declared.Answer.{Answer}
 use Rattle.base.specs.declared.Written.{Written}
 use Rattle.header.specs.Fields.{satelliteOf, radioOf}
-use Rattle.header.specs.Reading.{readHeaderOf}
+use Rattle.header.specs.Reading.{signal, readHeaderOf}
 use Rattle.header.specs.Writing.{afterWrite, HeaderWritten}
-use Rattle.frame.specs.Frames.{frameOf}
+use Rattle.frame.specs.Frames.{frame, frameOf}
 use Rattle.sheet.specs.declared.Source.{Source}
 use Rattle.sheet.specs.declared.Sheet.{Sheet}
 use Rattle.sheet.specs.declared.Offered.{Offered}
 use Rattle.sheet.specs.Records.{nextOf}
 use Rattle.sheet.specs.Sheets.{newSheet, acceptedOf, refusedOf, heardOf, fullOf, offerOf}
-use Rattle.listing.specs.declared.Cut.{Cut}
-use Rattle.listing.specs.Records.{cutOf}
+use Rattle.record.specs.declared.Cut.{Cut}
+use Rattle.record.specs.Records.{cutOf}
 use Rattle.page.specs.declared.PageAnswer.{PageAnswer}
 use Rattle.page.specs.declared.scaling.Scaling.{Scaling}
 use Rattle.page.specs.declared.scaling.ShownAnswer.{ShownAnswer}
@@ -44,36 +45,37 @@ repair-one w r s = one
 pub whole-one : (r s : List ℕ) → r ≡ syndromes → s ≡ syndromes → r ≡ s
 whole-one r s = one
 
-pub first-no-bit-one : (l : List ℕ) (r s : ℕ) → r ≡ firstNoBit l → s ≡ firstNoBit l → r ≡ s
-first-no-bit-one l r s = one
+pub first-no-bit-one : (bytes : List ℕ) (r s : ℕ) → r ≡ firstNoBit bytes → s ≡ firstNoBit bytes → r ≡ s
+first-no-bit-one bytes r s = one
 
 pub crc13-one : (payload : List ℕ) (r s : ℕ) → r ≡ crc13Of payload → s ≡ crc13Of payload → r ≡ s
 crc13-one payload r s = one
 
-pub satellite-one : (srcId r s : ℕ) → r ≡ satelliteOf srcId → s ≡ satelliteOf srcId → r ≡ s
-satellite-one srcId r s = one
+pub satellite-one : («src_id» r s : ℕ) → r ≡ satelliteOf «src_id» → s ≡ satelliteOf «src_id» → r ≡ s
+satellite-one «src_id» r s = one
 
-pub radio-one : (srcId r s : ℕ) → r ≡ radioOf srcId → s ≡ radioOf srcId → r ≡ s
-radio-one srcId r s = one
+pub radio-one : («src_id» r s : ℕ) → r ≡ radioOf «src_id» → s ≡ radioOf «src_id» → r ≡ s
+radio-one «src_id» r s = one
 
-pub read-header-one : (air : List ℕ) (r s : Answer) → r ≡ readHeaderOf air → s ≡ readHeaderOf air → r ≡ s
+pub read-header-one : (air : List ℕ) (r s : Answer) → r ≡ readHeaderOf (signal air) → s ≡ readHeaderOf (signal air) → r ≡ s
 read-header-one air r s = one
 
 -- the answer, and every byte of the output afterwards
-pub write-header-one : (f : Fields) (payload before : List ℕ) (r s : Written) (x y : List ℕ)
-    → HeaderWritten f payload before r x → HeaderWritten f payload before s y → (r ≡ s) × (x ≡ y)
-write-header-one f payload before r s x y a b =
+pub write-header-one : (fields : Fields) (payload out : List ℕ) (r s : Written) (out-r out-s : List ℕ)
+    → HeaderWritten fields payload out r out-r → HeaderWritten fields payload out s out-s → (r ≡ s) × (out-r ≡ out-s)
+write-header-one fields payload out r s out-r out-s a b =
     let answers : r ≡ s = one (a .answered) (b .answered) in
-    (answers, a .bytes ∙ ap (λ (w : Written). afterWrite w f payload before) answers ∙ sym (b .bytes))
+    (answers, a .bytes ∙ ap (λ (w : Written). afterWrite w fields payload out) answers ∙ sym (b .bytes))
 
-pub read-frame-one : (air payload : List ℕ) (r s : Answer) → r ≡ frameOf air payload → s ≡ frameOf air payload → r ≡ s
+pub read-frame-one : (air payload : List ℕ) (r s : Answer) → r ≡ frameOf (frame air payload) → s ≡ frameOf (frame air payload) → r ≡ s
 read-frame-one air payload r s = one
 
 pub read-page-one : (payload : List ℕ) (r s : PageAnswer) → r ≡ pageOf payload → s ≡ pageOf payload → r ≡ s
 read-page-one payload r s = one
 
-pub write-page-one : (rows : List ℤ) (before x y : List ℕ) (r s : Written) → PageWritten rows before x r → PageWritten rows before y s → (r ≡ s) × (x ≡ y)
-write-page-one rows before x y r s a b = (one (a .answer) (b .answer), one (a .bytes) (b .bytes))
+pub write-page-one : (rows : List ℤ) (out : List ℕ) (r s : Written) (out-r out-s : List ℕ)
+    → PageWritten rows out out-r r → PageWritten rows out out-s s → (r ≡ s) × (out-r ≡ out-s)
+write-page-one rows out r s out-r out-s a b = (one (a .answer) (b .answer), one (a .bytes) (b .bytes))
 
 pub scaling-of-one : (row : ℕ) (r s : Scaling) → r ≡ scalingOf row → s ≡ scalingOf row → r ≡ s
 scaling-of-one row r s = one
@@ -85,7 +87,7 @@ pub new-sheet-one : (r s : Sheet) → r ≡ newSheet → s ≡ newSheet → r �
 new-sheet-one r s = one
 
 -- the answer, and the whole sheet afterwards
-pub offer-one : (sheet : Sheet) (air payload : List ℕ) (r s : Offered) → r ≡ offerOf sheet air payload → s ≡ offerOf sheet air payload → r ≡ s
+pub offer-one : (sheet : Sheet) (air payload : List ℕ) (r s : Offered) → r ≡ offerOf sheet (frame air payload) → s ≡ offerOf sheet (frame air payload) → r ≡ s
 offer-one sheet air payload r s = one
 
 pub accepted-one : (sheet : Sheet) (r s : ℕ) → r ≡ acceptedOf sheet → s ≡ acceptedOf sheet → r ≡ s
@@ -100,8 +102,8 @@ heard-one sheet r s = one
 pub full-one : (sheet : Sheet) (r s : Bool) → r ≡ fullOf sheet → s ≡ fullOf sheet → r ≡ s
 full-one sheet r s = one
 
-pub next-one : (source : Source) (counter flips : ℕ) (r s : Source) → r ≡ nextOf source counter flips → s ≡ nextOf source counter flips → r ≡ s
-next-one source counter flips r s = one
+pub next-one : (source : Source) («fr_cnt_tx» flips : ℕ) (r s : Source) → r ≡ nextOf source «fr_cnt_tx» flips → s ≡ nextOf source «fr_cnt_tx» flips → r ≡ s
+next-one source «fr_cnt_tx» flips r s = one
 
 pub next-record-one : (rest : List ℕ) (r s : Cut) → r ≡ cutOf rest → s ≡ cutOf rest → r ≡ s
 next-record-one rest r s = one

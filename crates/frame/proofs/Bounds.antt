@@ -1,40 +1,43 @@
 -- What an answer to a frame keeps within: the source and the flips of an accepted one, the number of a refusal.
 -- Assumes nothing.
-use mathlib.Core.Path.{_≡_, subst}
-use mathlib.Core.List.{List}
+use mathlib.Core.Path.{_≡_, refl}
 use Prim.Native.Nat.{ℕ, _≤_}
-use lib.Dec.{lit≤}
 use lib.ListN.{getD}
 use Rattle.base.specs.declared.Refusal.{Refusal}
-use Rattle.base.proofs.First.{first-all}
+use Rattle.base.proofs.Numbers.{Among, numbers, first-number}
 use Rattle.base.proofs.Sums.{sum-le}
 use Rattle.word.specs.Words.{distance}
-use Rattle.air.specs.Air.{wordCount, wordAt}
+use Rattle.word.specs.Repairs.{radius}
+use Rattle.air.specs.Air.{wordCount, wordsOf}
+use Rattle.air.specs.Flips.{mostFlips}
 use Rattle.header.specs.declared.Header.{Header}
 use Rattle.header.specs.declared.Answer.{Answer}
 use Rattle.header.specs.declared.Answer.the-variants.{Accepted, Refused}
-use Rattle.header.proofs.GoesOn.{accepted}
-use Rattle.frame.specs.Frames.{frameChecks, frameOf}
+use Rattle.header.specs.Fields.{lastSource}
+use Rattle.header.specs.Reading.{repairedAnswer}
+use Rattle.header.proofs.GoesOn.{not-refused}
+use Rattle.frame.specs.Frames.{Frame, frameChecks, frameNumbers, frameOf}
 use Rattle.frame.proofs.Rules.{reader-then-rules}
 
-module _ (air payload : List ℕ) (h : Header) (k : ℕ) (e : frameOf air payload ≡ Accepted h k) where
-  pub frame-source : h .«fields» .«src_id» ≤ 7
-  frame-source = reader-then-rules air payload h k e .known-source
+module _ (f : Frame) (h : Header) (k : ℕ) (e : frameOf f ≡ Accepted h k) where
+  pub frame-source : h .«fields» .«src_id» ≤ lastSource
+  frame-source = reader-then-rules f h k e .known-source
 
   -- three flips in each of fourteen words
-  pub frame-flips : k ≤ 42
+  pub frame-flips : k ≤ mostFlips
   frame-flips =
-      let so = reader-then-rules air payload h k e in
-      rw (so .counted) (sum-le 3 wordCount (λ j. distance (wordAt air j) (getD (so .words) j 0)) (so .near))
+      let so = reader-then-rules f h k e in
+      rw (so .counted) (sum-le radius wordCount (λ j. distance (getD (wordsOf (f .head .air)) j 0) (getD (so .words) j 0)) (so .close .near))
 
--- the number of a refusal is one of the paper's table
-abbrev Numbered : Answer → Type 0
-Numbered (Accepted h k) = Unit {0}
-Numbered (Refused why) = (1 ≤ why .number) × (why .number ≤ 8)
+-- the number of a refusal; 0 where there is none
+abbrev numberIn : Answer → ℕ
+numberIn (Accepted h k) = 0
+numberIn (Refused why) = why .number
 
-pub frame-number : (air payload : List ℕ) (why : Refusal) → frameOf air payload ≡ Refused why → (1 ≤ why .number) × (why .number ≤ 8)
+-- the numbers are those of the rows, in their order
+pub rows-numbered : (f : Frame) → numbers numberIn (frameChecks f) ≡ frameNumbers
+rows-numbered f = refl
+
+pub frame-number : (f : Frame) (why : Refusal) → frameOf f ≡ Refused why → Among (why .number) frameNumbers
 unfolding frameOf
-frame-number air payload why e =
-    subst Numbered e
-    (first-all Numbered (accepted air) (frameChecks air payload) tt
-    ((lit≤ tt, lit≤ tt), ((lit≤ tt, lit≤ tt), ((lit≤ tt, lit≤ tt), ((lit≤ tt, lit≤ tt), ((lit≤ tt, lit≤ tt), ((lit≤ tt, lit≤ tt), ((lit≤ tt, lit≤ tt), ((lit≤ tt, lit≤ tt), tt)))))))))
+frame-number f why e = first-number numberIn (repairedAnswer (f .head)) (Refused why) (frameChecks f) (not-refused (f .head) why) e

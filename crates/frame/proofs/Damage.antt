@@ -8,29 +8,28 @@ use lib.ListN.{length, getD}
 use Rattle.base.specs.Lists.{AreBits}
 use Rattle.base.proofs.Sums.{sum-same}
 use Rattle.word.specs.Words.{distance}
-use Rattle.crc.specs.Crc.{crc13Of}
+use Rattle.word.specs.Repairs.{radius}
 use Rattle.air.specs.Air.{wordCount, airBits, wordsOf}
+use Rattle.air.specs.Closeness.{AllClose, distances}
 use Rattle.air.specs.Flips.{flipsBetween, flipsInWord, Burst}
 use Rattle.air.proofs.Places.{words-at}
-use Rattle.air.proofs.Restored.{AllClose, distances}
 use Rattle.air.proofs.Flipped.{word-flips, all-flips}
 use Rattle.air.proofs.Bursts.{burst-few}
 use Rattle.header.specs.declared.Fields.{Fields}
-use Rattle.header.specs.declared.Answer.{Answer}
 use Rattle.header.specs.declared.Answer.the-variants.{Accepted}
-use Rattle.header.specs.Fields.{fieldCount, valuesOf, codedOf}
-use Rattle.header.specs.Reading.{readHeaderOf}
-use Rattle.header.specs.Writing.{firstOver, payloadLimit, bitsFor, headerFor, airFor}
+use Rattle.header.specs.Fields.{codedOf}
+use Rattle.header.specs.Writing.{bitsFor, headerFor, airFor}
+use Rattle.header.specs.Reading.{signal}
+use Rattle.header.proofs.Passed.{Writable}
+use Rattle.header.proofs.GoesOn.{ReadAs}
 use Rattle.header.proofs.Carried.{coded-valid}
 use Rattle.header.proofs.RoundTrip.{written-words, written-are-bits, header-restored}
-use Rattle.frame.specs.Frames.{frameOf}
-use Rattle.frame.proofs.Payloads.{accepts, frame-left}
+use Rattle.frame.specs.Frames.{Frame, frame, frameOf}
+use Rattle.frame.proofs.Payloads.{frame-reads}
 
--- a header that was written for a payload is accepted with it
-pub with-payload : (f : Fields) (payload air : List ℕ) (flips : ℕ) → readHeaderOf air ≡ Accepted (headerFor f payload) flips → frameOf air payload ≡ Accepted (headerFor f payload) flips
-with-payload f payload air flips header =
-    let answer : Answer = Accepted (headerFor f payload) flips in
-    sym (frame-left air payload answer (headerFor f payload) flips answer (sym header) refl (accepts (headerFor f payload) flips payload refl (crc13Of payload) refl refl))
+-- a header that was written for the frame's payload is accepted with it
+pub with-payload : (f : Fields) (x : Frame) (flips : ℕ) → ReadAs (x .head) (headerFor f (x .payload)) flips → frameOf x ≡ Accepted (headerFor f (x .payload)) flips
+with-payload f x flips header = frame-reads x (headerFor f (x .payload)) flips (record { header = header; payload = record { same-length = refl; same-crc13 = refl } })
 
 module _ (f : Fields) (payload air : List ℕ) (bits : AreBits air) where
   abbrev sent : List ℕ
@@ -45,23 +44,19 @@ module _ (f : Fields) (payload air : List ℕ) (bits : AreBits air) where
       ap₂ distance (words-at air j h) (ap (λ (l : List ℕ). getD l j 0) (sym (written-words f payload)) ∙ words-at sent j h)
       ∙ word-flips air sent bits (written-are-bits f payload) j
 
-  damaged-close : ((j : ℕ) → j < wordCount → flipsInWord air sent j ≤ 3) → AllClose (wordsOf air) words
-  damaged-close few = record {
-    long = coded-valid (bitsFor f payload) .long;
-    each = λ j h. record { valid = coded-valid (bitsFor f payload) .each j h; near = rw (distance-at j h) (few j h) };
-  }
+  damaged-close : ((j : ℕ) → j < wordCount → flipsInWord air sent j ≤ radius) → AllClose (wordsOf air) words
+  damaged-close few = record { fourteen = coded-valid (bitsFor f payload); near = λ j h. rw (distance-at j h) (few j h) }
 
   pub damaged-flips : distances (wordsOf air) words ≡ flipsBetween air sent
   damaged-flips = sum-same wordCount _ _ distance-at ∙ all-flips air sent
 
-  -- the fields are in range and the payload is not too long: then the writer writes
-  module _ (ranges : fieldCount ≤ firstOver (valuesOf f)) (short : length payload ≤ payloadLimit) (long : length air ≡ airBits) where
+  module _ (ok : Writable f payload) (long : length air ≡ airBits) where
     -- at most three flips in each word
-    pub restored-frame : ((j : ℕ) → j < wordCount → flipsInWord air (airFor f payload) j ≤ 3) → frameOf air payload ≡ Accepted (headerFor f payload) (flipsBetween air (airFor f payload))
+    pub restored-frame : ((j : ℕ) → j < wordCount → flipsInWord air (airFor f payload) j ≤ radius) → frameOf (frame air payload) ≡ Accepted (headerFor f payload) (flipsBetween air (airFor f payload))
     restored-frame few =
-        with-payload f payload air (flipsBetween air sent)
-        (header-restored f payload ranges short air long bits (damaged-close few) ∙ ap (Accepted (headerFor f payload)) damaged-flips)
+        with-payload f (frame air payload) (flipsBetween air sent)
+        (rw damaged-flips at (header-restored f payload ok (signal air) long bits (damaged-close few)))
 
     -- a burst: all flips among 42 neighbouring bits
-    pub restored-burst : (start : ℕ) → Burst start air (airFor f payload) → frameOf air payload ≡ Accepted (headerFor f payload) (flipsBetween air (airFor f payload))
+    pub restored-burst : (start : ℕ) → Burst start air (airFor f payload) → frameOf (frame air payload) ≡ Accepted (headerFor f payload) (flipsBetween air (airFor f payload))
     restored-burst start burst = restored-frame (burst-few start air (airFor f payload) burst)

@@ -3,4 +3,3 @@ pub mod Rules
 pub mod Bounds
 pub mod Damage
 pub mod Writing
-pub mod Limit

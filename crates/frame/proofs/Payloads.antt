@@ -1,42 +1,86 @@
--- The frame's answer from the header's: rows 7 and 8, and what the header's answer leaves to them.
+-- Rows 7 and 8 of the paper's table, and the frame's answer from the header's.
 -- Assumes nothing.
-use mathlib.Core.Path.{_≡_, sym, ap₂, _∙_}
-use mathlib.Core.List.{List}
+use mathlib.Core.Path.{_≡_, refl, sym, ap₂, _∙_}
+use mathlib.Core.List.{List, [], _∷_}
 use Prim.Native.Nat.{ℕ}
 use lib.ListN.{length}
+use borrow.Author.Needs.{needs}
 use borrow.Author.Tests.{eq-eqb, ne-eqb}
 use Rattle.base.specs.declared.Refusal.{Refusal}
 use Rattle.base.specs.Checks.{first, refusal}
+use Rattle.base.proofs.First.{NoneApplies, none-split, first-passes}
+use Rattle.base.proofs.Tests.{not-differs}
 use Rattle.crc.specs.Crc.{crc13Of}
 use Rattle.header.specs.declared.Header.{Header}
 use Rattle.header.specs.declared.Answer.{Answer}
 use Rattle.header.specs.declared.Answer.the-variants.{Accepted, Refused}
-use Rattle.header.specs.Fields.{headerOf}
-use Rattle.header.specs.Reading.{repairedBits, readHeaderOf}
-use Rattle.header.proofs.GoesOn.{header-refused, header-accepted}
-use Rattle.frame.specs.Frames.{payloadChecks, frameOf}
+use Rattle.header.specs.Reading.{signal, signalChecks, repairedAnswer, readHeaderOf}
+use Rattle.header.proofs.GoesOn.{no-row, ReadAs, read-as, header-refused, header-leaves}
+use Rattle.frame.specs.Frames.{Frame, frame, repairedHeader, crc13Differs, payloadChecks, frameChecks, frameOf}
 
 module _ (h : Header) (flips : ℕ) (payload : List ℕ) where
-  pub gives-7 : (length payload ≡ h .«pdu_length» → ⊥) → Refused (refusal 7 (h .«pdu_length»)) ≡ first (Accepted h flips) (payloadChecks h payload)
+  abbrev judged : Answer
+  judged = first (Accepted h flips) (payloadChecks h payload)
+
+  pub gives-7 : (length payload ≡ h .«pdu_length» → ⊥) → Refused (refusal 7 (h .«pdu_length»)) ≡ judged
   gives-7 differs = rw (ne-eqb (length payload) (h .«pdu_length») differs)
 
   module _ (same : length payload ≡ h .«pdu_length») (crc : ℕ) (worked : crc ≡ crc13Of payload) where
-    pub gives-8 : (crc ≡ h .«crc13» → ⊥) → Refused (refusal 8 crc) ≡ first (Accepted h flips) (payloadChecks h payload)
-    gives-8 differs = rw (← worked, eq-eqb (length payload) (h .«pdu_length») same, ne-eqb crc (h .«crc13») differs)
+    past-7 : first (Accepted h flips) (crc13Differs h payload ∷ []) ≡ judged
+    past-7 = rw (eq-eqb (length payload) (h .«pdu_length») same)
 
-    pub accepts : crc ≡ h .«crc13» → Accepted h flips ≡ first (Accepted h flips) (payloadChecks h payload)
-    accepts equal = rw (← worked, eq-eqb (length payload) (h .«pdu_length») same, eq-eqb crc (h .«crc13») equal)
+    pub gives-8 : (crc ≡ h .«crc13» → ⊥) → Refused (refusal 8 crc) ≡ judged
+    gives-8 differs = rw (← past-7, ← worked, ne-eqb crc (h .«crc13») differs)
 
-module _ (air payload : List ℕ) where
+    pub accepts : crc ≡ h .«crc13» → Accepted h flips ≡ judged
+    accepts equal = rw (← past-7, ← worked, eq-eqb crc (h .«crc13») equal)
+
+-- rows 7 and 8 are past
+pub record PayloadPassed (h : Header) (payload : List ℕ) : Type 0 where
+  pub same-length : length payload ≡ h .«pdu_length»
+  pub same-crc13 : crc13Of payload ≡ h .«crc13»
+
+payload-passed : (h : Header) (payload : List ℕ) → NoneApplies (payloadChecks h payload) → PayloadPassed h payload
+payload-passed h payload none = record {
+  same-length = not-differs (length payload) (h .«pdu_length») (none .0);
+  same-crc13 = not-differs (crc13Of payload) (h .«crc13») (none .1 .0);
+}
+
+-- a frame that is accepted: its header is, and its payload agrees with it
+pub record FrameReadAs (f : Frame) (h : Header) (k : ℕ) : Type 0 where
+  pub header : ReadAs (f .head) h k
+  pub payload : PayloadPassed h (f .payload)
+
+module _ (f : Frame) where
   -- a refused header refuses the frame
-  pub frame-refused : (a : Answer) (why : Refusal) → a ≡ readHeaderOf air → a ≡ Refused why → Refused why ≡ frameOf air payload
+  refused-head : (why : Refusal) → readHeaderOf (f .head) ≡ Refused why → frameOf f ≡ Refused why
   unfolding frameOf
-  frame-refused a why is e = sym (header-refused air (payloadChecks (headerOf (repairedBits air)) payload) why (sym is ∙ e))
+  refused-head why e = header-refused (f .head) (payloadChecks (repairedHeader f) (f .payload)) why e
 
-  -- an accepted one leaves it to the payload
-  pub frame-left : (a : Answer) (h : Header) (k : ℕ) (r : Answer) → a ≡ readHeaderOf air → a ≡ Accepted h k → r ≡ first (Accepted h k) (payloadChecks h payload) → r ≡ frameOf air payload
-  unfolding frameOf
-  frame-left a h k r is e judged =
-      let passed = header-accepted air (payloadChecks (headerOf (repairedBits air)) payload) h k (sym is ∙ e) in
-      let same : headerOf (repairedBits air) ≡ h = cc (passed .0) in
-      judged ∙ sym (passed .1 ∙ ap₂ (λ (x : Answer) (g : Header). first x (payloadChecks g payload)) (passed .0) same)
+  module _ (h : Header) (k : ℕ) where
+    -- an accepted one leaves it to the payload
+    left-to-payload : ReadAs (f .head) h k → frameOf f ≡ first (Accepted h k) (payloadChecks h (f .payload))
+    unfolding frameOf
+    left-to-payload so =
+        let same : repairedHeader f ≡ h = cc (so .is) in
+        header-leaves (f .head) (payloadChecks (repairedHeader f) (f .payload)) (so .passed)
+        ∙ ap₂ (λ (x : Answer) (g : Header). first x (payloadChecks g (f .payload))) (so .is) same
+
+    pub frame-reads : FrameReadAs f h k → frameOf f ≡ Accepted h k
+    frame-reads so = left-to-payload (so .header) ∙ sym (accepts h k (f .payload) (so .payload .same-length) (crc13Of (f .payload)) refl (so .payload .same-crc13))
+
+    pub frame-read-as : frameOf f ≡ Accepted h k → FrameReadAs f h k
+    unfolding frameOf
+    frame-read-as e =
+        let passed = first-passes (repairedAnswer (f .head)) (Accepted h k) (frameChecks f) (search (needs, no-row)) e in
+        let parts = none-split (signalChecks (f .head)) (payloadChecks (repairedHeader f) (f .payload)) (passed .1) in
+        let same : repairedHeader f ≡ h = cc (passed .0) in
+        record { header = record { is = passed .0; passed = parts .0 }; payload = rw same at (payload-passed (repairedHeader f) (f .payload) (parts .1)) }
+
+-- THE SAME, as the reader finds it: a is the header's answer, and r what is judged of the payload
+module _ (air payload : List ℕ) (a : Answer) (is : a ≡ readHeaderOf (signal air)) where
+  pub frame-refused : (why : Refusal) → a ≡ Refused why → Refused why ≡ frameOf (frame air payload)
+  frame-refused why e = sym (refused-head (frame air payload) why (sym is ∙ e))
+
+  pub frame-left : (h : Header) (k : ℕ) (r : Answer) → a ≡ Accepted h k → r ≡ first (Accepted h k) (payloadChecks h payload) → r ≡ frameOf (frame air payload)
+  frame-left h k r e judged = judged ∙ sym (left-to-payload (frame air payload) h k (read-as (signal air) h k (sym is ∙ e)))

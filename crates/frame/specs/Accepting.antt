@@ -3,32 +3,31 @@
 -- Assumes nothing.
 use mathlib.Core.Path.{_≡_}
 use mathlib.Core.List.{List}
-use Prim.Native.Nat.{ℕ, _<_, _≤_}
-use lib.ListN.{length, getD}
-use Rattle.base.specs.Lists.{sumTo, AreBits}
-use Rattle.word.specs.Words.{Valid, distance}
+use Prim.Native.Nat.{ℕ, _≤_}
+use lib.ListN.{length}
+use Rattle.base.specs.Lists.{AreBits}
 use Rattle.crc.specs.Crc.{crc13Of}
 use Rattle.crc.specs.Crc5.{crc5Of}
-use Rattle.air.specs.Air.{wordCount, airBits, wordAt}
+use Rattle.air.specs.Air.{airBits, wordsOf}
+use Rattle.air.specs.Closeness.{AllClose, distances}
 use Rattle.header.specs.declared.Header.{Header}
 use Rattle.header.specs.Fields.{lastSource, lastCoding, headerOf, bitsOfWords}
+use Rattle.frame.specs.Frames.{Frame}
 
-pub record Accepts (air payload : List ℕ) (header : Header) (flips : ℕ) : Type 0 where
+pub record Accepts (f : Frame) (header : Header) (flips : ℕ) : Type 0 where
   -- "The header arrives as 210 bytes, each 0 or 1."
-  pub long : length air ≡ airBits
-  pub bits : AreBits air
+  pub long : length (f .head .air) ≡ airBits
+  pub bits : AreBits (f .head .air)
   -- "A word becomes the valid word that differs in at most three places": fourteen such words
   pub words : List ℕ
-  pub fourteen : length words ≡ wordCount
-  pub valid : (j : ℕ) → j < wordCount → Valid (getD words j 0)
-  pub near : (j : ℕ) → j < wordCount → distance (wordAt air j) (getD words j 0) ≤ 3
+  pub close : AllClose (wordsOf (f .head .air)) words
   -- the header is made of their data
   pub made : header ≡ headerOf (bitsOfWords words)
   -- the checks of the paper's table, 4 to 8, do not apply
   pub same-crc5 : crc5Of (bitsOfWords words) ≡ header .«crc5»
   pub known-source : header .«fields» .«src_id» ≤ lastSource
   pub known-coding : header .«fields» .«ai_type_src» ≤ lastCoding
-  pub same-length : length payload ≡ header .«pdu_length»
-  pub same-crc13 : crc13Of payload ≡ header .«crc13»
+  pub same-length : length (f .payload) ≡ header .«pdu_length»
+  pub same-crc13 : crc13Of (f .payload) ≡ header .«crc13»
   -- the flips are the places in which the words differ from those that they became
-  pub counted : flips ≡ sumTo wordCount (λ j. distance (wordAt air j) (getD words j 0))
+  pub counted : flips ≡ distances (wordsOf (f .head .air)) words

@@ -7,28 +7,44 @@ use lib.Dec.{eqb}
 use lib.ListN.{length}
 use Rattle.base.specs.Checks.{Check, check, first, refusal}
 use Rattle.crc.specs.Crc.{crc13Of}
-use Rattle.air.specs.Air.{wordsOf}
-use Rattle.air.specs.Mends.{flipsIn}
 use Rattle.header.specs.declared.Header.{Header}
 use Rattle.header.specs.declared.Answer.{Answer}
-use Rattle.header.specs.declared.Answer.the-variants.{Accepted, Refused}
+use Rattle.header.specs.declared.Answer.the-variants.{Refused}
 use Rattle.header.specs.Fields.{headerOf}
-use Rattle.header.specs.Reading.{repairedBits, airChecks, headerChecks}
+use Rattle.header.specs.Reading.{Signal, signal, repairedBits, signalChecks, repairedAnswer}
 
--- the paper's table, rows 7 and 8: the payload
+-- a frame as it is offered: what its header is read from, and its payload
+pub record Frame : Type 0 where
+  pub head : Signal
+  pub payload : List ℕ
+
+abbrev pub frame : List ℕ → List ℕ → Frame
+frame air payload = record { head = signal air; payload = payload }
+
+-- the header that its words are repaired to
+abbrev pub repairedHeader : Frame → Header
+repairedHeader f = headerOf (repairedBits (f .head))
+
+-- THE PAPER'S TABLE, rows 7 and 8: the payload, held against a header
+-- 7, "payload length is not PduLength": PduLength
+abbrev pub otherLength : Header → List ℕ → Check Answer
+otherLength h payload = check (not (eqb (length payload) (h .«pdu_length»))) (Refused (refusal 7 (h .«pdu_length»)))
+
+-- 8, "CRC13 differs": CRC13 worked out
+abbrev pub crc13Differs : Header → List ℕ → Check Answer
+crc13Differs h payload = check (not (eqb (crc13Of payload) (h .«crc13»))) (Refused (refusal 8 (crc13Of payload)))
+
 abbrev pub payloadChecks : Header → List ℕ → List (Check Answer)
-payloadChecks h payload =
-    -- "payload length is not PduLength": PduLength
-    check (not (eqb (length payload) (h .«pdu_length»))) (Refused (refusal 7 (h .«pdu_length»)))
-    -- "CRC13 differs": CRC13 worked out
-    ∷ check (not (eqb (crc13Of payload) (h .«crc13»))) (Refused (refusal 8 (crc13Of payload)))
-    ∷ []
+payloadChecks h payload = otherLength h payload ∷ crc13Differs h payload ∷ []
 
 -- all rows, 1 to 8
-abbrev pub frameChecks : List ℕ → List ℕ → List (Check Answer)
-frameChecks air payload =
-    (airChecks air ++ headerChecks (repairedBits air)) ++ payloadChecks (headerOf (repairedBits air)) payload
+abbrev pub frameChecks : Frame → List (Check Answer)
+frameChecks f = signalChecks (f .head) ++ payloadChecks (repairedHeader f) (f .payload)
+
+-- their numbers: the whole order at a glance
+abbrev pub frameNumbers : List ℕ
+frameNumbers = 1 ∷ 2 ∷ 3 ∷ 4 ∷ 5 ∷ 6 ∷ 7 ∷ 8 ∷ []
 
 -- "Frame, in this order; the first that applies is given"
-unfoldable pub frameOf : List ℕ → List ℕ → Answer
-frameOf air payload = first (Accepted (headerOf (repairedBits air)) (flipsIn (wordsOf air))) (frameChecks air payload)
+unfoldable pub frameOf : Frame → Answer
+frameOf f = first (repairedAnswer (f .head)) (frameChecks f)

@@ -4,10 +4,11 @@ use base::OTHER_LENGTH;
 use base::Refusal;
 use header::Answer;
 use header::Header;
+use word::table::TABLE_ROWS;
 ghost use mathlib.Core.Path.{_≡_};
 ghost use Rattle.base.specs.Checks.{first};
 ghost use Rattle.word.specs.Repairs.{syndromes};
-ghost use Rattle.frame.specs.Frames.{payloadChecks, frameOf};
+ghost use Rattle.frame.specs.Frames.{frame, payloadChecks, frameOf};
 
 // Checks 7 and 8 on the payload of an accepted header.
 fn judge_payload(header: Header, flips: u32, payload: &[u8]) -> Answer
@@ -31,24 +32,21 @@ fn judge_payload(header: Header, flips: u32, payload: &[u8]) -> Answer
 }
 
 // The reader, by a lent copy of the syndrome table: what a caller with many frames copies once.
-pub fn read_frame_in(table: &[u16; 1024], header: &[u8], payload: &[u8]) -> Answer
+pub fn read_frame_in(table: &[u16; TABLE_ROWS], air: &[u8], payload: &[u8]) -> Answer
     requires { ⌜ now table ≡ syndromes ⌝ }
-    ensures { λ r. ⌜ r ≡ frameOf (now (header .entry)) (now (payload .entry)) ⌝ }
+    ensures { λ r. ⌜ r ≡ frameOf (frame (now (air .entry)) (now (payload .entry))) ⌝ }
 {
-    match header::read_header_in(table, header) {
+    match header::read_header_in(table, air) {
         Answer::Refused(why) => Answer::Refused(why),
-        Answer::Accepted {
-            header: repaired,
-            flips,
-        } => judge_payload(repaired, flips, payload),
+        Answer::Accepted { header, flips } => judge_payload(header, flips, payload),
     }
 }
 
 // The reader of any two slices: accepted with the repaired header and the number of flips, or the first refusal of 1 to 8.
 // A checksum that differs is a refusal, so it is never told beside an accepted frame.
-pub fn read_frame(header: &[u8], payload: &[u8]) -> Answer
-    ensures { λ r. ⌜ r ≡ frameOf (now (header .entry)) (now (payload .entry)) ⌝ }
+pub fn read_frame(air: &[u8], payload: &[u8]) -> Answer
+    ensures { λ r. ⌜ r ≡ frameOf (frame (now (air .entry)) (now (payload .entry))) ⌝ }
 {
     let table = word::table::whole();
-    read_frame_in(&table, header, payload)
+    read_frame_in(&table, air, payload)
 }

@@ -16,10 +16,12 @@ use Rattle.word.specs.Words.{dataOf, encodeOf}
 use Rattle.word.proofs.Multiples.{encode-data}
 use Rattle.word.proofs.Valids.{valid-lt, valid-encode, encode-valid}
 use Rattle.air.specs.Air.{wordCount}
-use Rattle.header.specs.Fields.{dataWidths, bitsOfWords, dataAt, codedOf, ValidWords}
+use Rattle.header.specs.Fields.{dataWidths, bitsOfWords, dataAt, codedOf}
 use Rattle.header.proofs.WordData.{data-within, AreWords}
 use Rattle.header.proofs.Coding.{data-lt}
 use Rattle.header.proofs.Places.{coded-at}
+use Rattle.air.specs.Closeness.{ValidWords}
+use Rattle.crc.specs.Crc5.{headerWidth}
 
 pub coded-valid : (n : ℕ) → ValidWords (codedOf n)
 unfolding codedOf
@@ -44,7 +46,7 @@ data-of n =
     List·getD-map dataOf (codedOf n) j 0 ∙ ap dataOf (coded-at n j below) ∙ encode-data (dataAt n j) (data-lt n j below))
 
 -- they carry the bits
-pub coded-bits : (n : ℕ) → n < 2 ^ 70 → bitsOfWords (codedOf n) ≡ n
+pub coded-bits : (n : ℕ) → n < 2 ^ headerWidth → bitsOfWords (codedOf n) ≡ n
 unfolding bitsOfWords
 coded-bits n small = ap (joined dataWidths) (data-of n) ∙ join-parts 0 dataWidths n ∙ zero-add (n % 2 ^ 70) ∙ mod-eq-of-lt small
 
@@ -53,7 +55,7 @@ module _ (words : List ℕ) (ok : ValidWords words) where
   data-widths = rw (ok .long) at (data-within words (valid-words words ok))
 
   -- the bits that valid words carry are 70
-  pub carried-lt : bitsOfWords words < 2 ^ 70
+  pub carried-lt : bitsOfWords words < 2 ^ headerWidth
   unfolding bitsOfWords
   carried-lt = join-lt data-widths
 

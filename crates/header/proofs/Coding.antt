@@ -13,6 +13,7 @@ use Rattle.base.proofs.Joined.{parts-append, parts-length, even-at}
 use Rattle.word.specs.Words.{encodeOf}
 use Rattle.air.specs.Air.{wordCount}
 use Rattle.header.specs.Fields.{dataAt}
+use Rattle.crc.specs.Halves.{headerBits, loWidth}
 
 -- five bits of a header of 70
 pub data-at : (n j : ℕ) → j < wordCount → dataAt n j ≡ n / 2 ^ (5 * (wordCount - suc j)) % 32
@@ -22,26 +23,26 @@ data-at n j h = even-at 5 wordCount n j h
 pub data-lt : (n j : ℕ) → j < wordCount → dataAt n j < 32
 data-lt n j h = rw (data-at n j h) (mod-lt (n / 2 ^ (5 * (wordCount - suc j))) (lit< tt))
 
-module _ (hi lo j : ℕ) (small : lo < 2 ^ 40) where
+module _ (hi lo j : ℕ) (small : lo < 2 ^ loWidth) where
   upper : List ℕ
   upper = partsOf (replicate 6 5) hi
 
   lower : List ℕ
   lower = partsOf (replicate 8 5) lo
 
-  in-two : dataAt (hi * 2 ^ 40 + lo) j ≡ getD (upper ++ lower) j 0
+  in-two : dataAt (headerBits hi lo) j ≡ getD (upper ++ lower) j 0
   unfolding dataAt upper lower
   in-two = ap (λ (l : List ℕ). getD l j 0) (parts-append (replicate 6 5) (replicate 8 5) hi lo small)
 
   -- word j has header bits 5 j to 5 j + 4: of the upper number, or of the lower
-  pub data-upper : 5 * j + 5 ≤ 30 → hi / 2 ^ (30 - (5 * j + 5)) % 32 ≡ dataAt (hi * 2 ^ 40 + lo) j
+  pub data-upper : 5 * j + 5 ≤ 30 → hi / 2 ^ (30 - (5 * j + 5)) % 32 ≡ dataAt (headerBits hi lo) j
   unfolding upper
   data-upper h =
       let same : 30 - (5 * j + 5) ≡ 5 * (6 - suc j) = omega arith in
       let inside : j < length upper = rw (parts-length (replicate 6 5) hi) (omega arith) in
       sym (in-two ∙ List·getD-append upper lower 0 j inside ∙ even-at 5 6 hi j (omega arith) ∙ rw same)
 
-  pub data-lower : 30 < 5 * j + 5 → j < wordCount → lo / 2 ^ (70 - (5 * j + 5)) % 32 ≡ dataAt (hi * 2 ^ 40 + lo) j
+  pub data-lower : 30 < 5 * j + 5 → j < wordCount → lo / 2 ^ (70 - (5 * j + 5)) % 32 ≡ dataAt (headerBits hi lo) j
   unfolding upper lower
   data-lower h k =
       let same : 70 - (5 * j + 5) ≡ 5 * (8 - suc (j - 6)) = omega arith in

@@ -7,14 +7,13 @@ use native.Mathlib.Omega.{arith}
 use borrow.Author.Needs.{needs}
 use Rattle.base.specs.declared.Refusal.{Refusal}
 use Rattle.base.specs.Checks.{Check, first}
-use Rattle.base.proofs.First.{first-append, first-stays, first-passes, first-none}
-use Rattle.air.specs.Air.{wordsOf}
-use Rattle.air.specs.Mends.{flipsIn}
+use Rattle.base.proofs.First.{NoneApplies, first-append, first-stays, first-passes, first-none}
+use Rattle.air.specs.WordRepairs.{flipsIn}
 use Rattle.header.specs.declared.Header.{Header}
 use Rattle.header.specs.declared.Answer.{Answer}
 use Rattle.header.specs.declared.Answer.the-variants.{Accepted, Refused}
 use Rattle.header.specs.Fields.{headerOf}
-use Rattle.header.specs.Reading.{repairedBits, airChecks, headerChecks, readHeaderOf}
+use Rattle.header.specs.Reading.{Signal, arrived, repairedBits, signalChecks, repairedAnswer, readHeaderOf}
 
 pub apart : (h : Header) (k : ℕ) (why : Refusal) → Accepted h k ≡ Refused why → ⊥
 apart h k why e = let z : _≡_ {A = ℕ} 0 1 = cc in omega arith
@@ -22,22 +21,28 @@ apart h k why e = let z : _≡_ {A = ℕ} 0 1 = cc in omega arith
 pub no-row : (h : Header) (k : ℕ) (why : Refusal) → Refused why ≡ Accepted h k → ⊥
 no-row h k why e = apart h k why (sym e)
 
-module _ (air : List ℕ) where
-  -- what is answered where no row applies
-  abbrev pub accepted : Answer
-  accepted = Accepted (headerOf (repairedBits air)) (flipsIn (wordsOf air))
+module _ (s : Signal) where
+  pub not-refused : (why : Refusal) → repairedAnswer s ≡ Refused why → ⊥
+  not-refused why = apart (headerOf (repairedBits s)) (flipsIn (arrived s)) why
 
-  abbrev pub rows : List (Check Answer)
-  rows = airChecks air ++ headerChecks (repairedBits air)
+  -- a header that is accepted has passed all rows, and no other answer is the accepted one
+  pub record ReadAs (h : Header) (k : ℕ) : Type 0 where
+    pub is : repairedAnswer s ≡ Accepted h k
+    pub passed : NoneApplies (signalChecks s)
+
+  pub read-as : (h : Header) (k : ℕ) → readHeaderOf s ≡ Accepted h k → ReadAs h k
+  unfolding readHeaderOf
+  read-as h k e =
+      let passed = first-passes (repairedAnswer s) (Accepted h k) (signalChecks s) (search (needs, no-row)) e in
+      record { is = passed .0; passed = passed .1 }
 
   -- a header that is refused stays refused
-  pub header-refused : (more : List (Check Answer)) (why : Refusal) → readHeaderOf air ≡ Refused why → first accepted (rows ++ more) ≡ Refused why
+  pub header-refused : (more : List (Check Answer)) (why : Refusal) → readHeaderOf s ≡ Refused why → first (repairedAnswer s) (signalChecks s ++ more) ≡ Refused why
   unfolding readHeaderOf
-  header-refused more why e = first-append accepted rows more ∙ first-stays accepted (first accepted more) (Refused why) rows (apart (headerOf (repairedBits air)) (flipsIn (wordsOf air)) why) e
+  header-refused more why e =
+      first-append (repairedAnswer s) (signalChecks s) more
+      ∙ first-stays (repairedAnswer s) (first (repairedAnswer s) more) (Refused why) (signalChecks s) (not-refused why) e
 
   -- one that is accepted leaves the rows that follow
-  pub header-accepted : (more : List (Check Answer)) (h : Header) (k : ℕ) → readHeaderOf air ≡ Accepted h k → (accepted ≡ Accepted h k) × (first accepted (rows ++ more) ≡ first accepted more)
-  unfolding readHeaderOf
-  header-accepted more h k e =
-      let passed = first-passes accepted (Accepted h k) rows (search (needs, no-row)) e in
-      (passed .0, first-append accepted rows more ∙ first-none (first accepted more) rows (passed .1))
+  pub header-leaves : (more : List (Check Answer)) → NoneApplies (signalChecks s) → first (repairedAnswer s) (signalChecks s ++ more) ≡ first (repairedAnswer s) more
+  header-leaves more passed = first-append (repairedAnswer s) (signalChecks s) more ∙ first-none (first (repairedAnswer s) more) (signalChecks s) passed

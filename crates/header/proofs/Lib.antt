@@ -1,5 +1,6 @@
 pub mod Unpacking
 pub mod WordData
+pub mod Passed
 pub mod Judging
 pub mod Rows
 pub mod Ranges

@@ -17,9 +17,12 @@ use Rattle.crc.specs.Crc.{crc13Of}
 use Rattle.crc.specs.Crc5.{crc5Of}
 use Rattle.crc.proofs.Width.{crc13-lt, crc5-lt}
 use Rattle.header.specs.declared.Fields.{Fields}
-use Rattle.header.specs.Fields.{upperWidths, lowerWidths, widths, fieldCount, valuesOf}
-use Rattle.header.specs.Writing.{mostOf, firstOver, payloadLimit, bitsWith, bitsFor}
+use Rattle.header.specs.Fields.{widths, fieldCount, valuesOf}
+use Rattle.header.specs.Writing.{mostOf, bitsWith, bitsFor}
 use Rattle.header.proofs.Ranges.{in-range}
+use Rattle.header.proofs.Passed.{Writable}
+use Rattle.crc.specs.Halves.{headerBits, hiWidth, loWidth}
+use Rattle.header.specs.HalfWidths.{lowerWidths, upperFields, upperWidths}
 
 -- a bound is within its field's width
 most-lt : (k : ℕ) → k < fieldCount → mostOf k < 2 ^ getD (take fieldCount widths) k 0
@@ -29,52 +32,52 @@ most-lt k h = ltb→lt (mostOf k) (2 ^ getD (take fieldCount widths) k 0) (every
 abbrev written : List ℕ → ℕ → List ℕ
 written payload crc5 = length payload ∷ crc13Of payload ∷ crc5 ∷ []
 
-module _ (f : Fields) (payload : List ℕ) (ranges : fieldCount ≤ firstOver (valuesOf f)) (short : length payload ≤ payloadLimit) where
+module _ (f : Fields) (payload : List ℕ) (ok : Writable f payload) where
   pub values-within : (crc5 : ℕ) → crc5 < 32 → InWidths widths (valuesOf f ++ written payload crc5)
   values-within crc5 h =
       within-append
-      (within-all (take fieldCount widths) (valuesOf f) refl (λ k below. lt-of-le-of-lt (in-range (valuesOf f) ranges k below) (most-lt k below)))
-      (part {w = 10} (omega arith) (part {w = 13} (crc13-lt payload) (part {w = 5} h none)))
+      (within-all (take fieldCount widths) (valuesOf f) refl (λ k below. lt-of-le-of-lt (in-range (valuesOf f) (ok .ranges) k below) (most-lt k below)))
+      (part {w = 10} (omega (arith, ok .short)) (part {w = 13} (crc13-lt payload) (part {w = 5} h none)))
 
-  module _ (crc13 hi lo : ℕ) (worked13 : crc13 ≡ crc13Of payload) (above : hi ≡ joined upperWidths (take 6 (valuesOf f)))
-      (lower : lo ≡ joined lowerWidths (drop 6 (valuesOf f) ++ (length payload ∷ crc13 ∷ 0 ∷ []))) where
-    below : lo ≡ joined lowerWidths (drop 6 (valuesOf f) ++ written payload 0)
+  module _ (crc13 hi lo : ℕ) (worked13 : crc13 ≡ crc13Of payload) (above : hi ≡ joined upperWidths (take upperFields (valuesOf f)))
+      (lower : lo ≡ joined lowerWidths (drop upperFields (valuesOf f) ++ (length payload ∷ crc13 ∷ 0 ∷ []))) where
+    below : lo ≡ joined lowerWidths (drop upperFields (valuesOf f) ++ written payload 0)
     below = rw worked13 at lower
 
-    upper-within : InWidths upperWidths (take 6 (valuesOf f))
-    upper-within = within-front upperWidths lowerWidths (take 6 (valuesOf f)) (drop 6 (valuesOf f) ++ written payload 0) refl (values-within 0 (omega arith))
+    upper-within : InWidths upperWidths (take upperFields (valuesOf f))
+    upper-within = within-front upperWidths lowerWidths (take upperFields (valuesOf f)) (drop upperFields (valuesOf f) ++ written payload 0) refl (values-within 0 (omega arith))
 
-    lower-within : (crc5 : ℕ) → crc5 < 32 → InWidths lowerWidths (drop 6 (valuesOf f) ++ written payload crc5)
-    lower-within crc5 h = within-rest upperWidths lowerWidths (take 6 (valuesOf f)) (drop 6 (valuesOf f) ++ written payload crc5) refl (values-within crc5 h)
+    lower-within : (crc5 : ℕ) → crc5 < 32 → InWidths lowerWidths (drop upperFields (valuesOf f) ++ written payload crc5)
+    lower-within crc5 h = within-rest upperWidths lowerWidths (take upperFields (valuesOf f)) (drop upperFields (valuesOf f) ++ written payload crc5) refl (values-within crc5 h)
 
-    pub hi-lt : hi < 2 ^ 30
+    pub hi-lt : hi < 2 ^ hiWidth
     hi-lt = rw above (join-lt upper-within)
 
-    pub lo-lt : lo < 2 ^ 40
+    pub lo-lt : lo < 2 ^ loWidth
     lo-lt = rw below (join-lt (lower-within 0 (omega arith)))
 
     -- the last part is added
-    with-crc5 : (crc5 : ℕ) → joined lowerWidths (drop 6 (valuesOf f) ++ written payload crc5) ≡ lo + crc5
+    with-crc5 : (crc5 : ℕ) → joined lowerWidths (drop upperFields (valuesOf f) ++ written payload crc5) ≡ lo + crc5
     with-crc5 crc5 = rw (below, add-zero)
 
-    two-numbers : (crc5 : ℕ) → crc5 < 32 → bitsWith f payload crc5 ≡ hi * 2 ^ 40 + (lo + crc5)
+    two-numbers : (crc5 : ℕ) → crc5 < 32 → bitsWith f payload crc5 ≡ headerBits hi (lo + crc5)
     two-numbers crc5 h =
-        join-append 0 upperWidths lowerWidths (take 6 (valuesOf f)) (drop 6 (valuesOf f) ++ written payload crc5) refl
-        ∙ join-above (joined upperWidths (take 6 (valuesOf f))) (lower-within crc5 h)
-        ∙ ap₂ (λ (a b : ℕ). a * 2 ^ 40 + b) (sym above) (with-crc5 crc5)
+        join-append 0 upperWidths lowerWidths (take upperFields (valuesOf f)) (drop upperFields (valuesOf f) ++ written payload crc5) refl
+        ∙ join-above (joined upperWidths (take upperFields (valuesOf f))) (lower-within crc5 h)
+        ∙ ap₂ headerBits (sym above) (with-crc5 crc5)
 
-    module _ (crc5 : ℕ) (worked : crc5 ≡ crc5Of (hi * 2 ^ 40 + lo)) where
+    module _ (crc5 : ℕ) (worked : crc5 ≡ crc5Of (headerBits hi lo)) where
       crc5-small : crc5 < 32
-      crc5-small = rw worked (crc5-lt (hi * 2 ^ 40 + lo))
+      crc5-small = rw worked (crc5-lt (headerBits hi lo))
 
-      pub whole-lt : lo + crc5 < 2 ^ 40
+      pub whole-lt : lo + crc5 < 2 ^ loWidth
       whole-lt = rw (← with-crc5 crc5) (join-lt (lower-within crc5 crc5-small))
 
       pub whole-fits : Fits w64 (lo + crc5)
       whole-fits = record { fits = omega (arith, whole-lt) }
 
-      pub packed : hi * 2 ^ 40 + (lo + crc5) ≡ bitsFor f payload
+      pub packed : headerBits hi (lo + crc5) ≡ bitsFor f payload
       unfolding bitsFor
       packed =
-          let first : bitsWith f payload 0 ≡ hi * 2 ^ 40 + lo = two-numbers 0 (omega arith) ∙ ap (λ (n : ℕ). hi * 2 ^ 40 + n) (add-zero lo) in
+          let first : bitsWith f payload 0 ≡ headerBits hi lo = two-numbers 0 (omega arith) ∙ ap (headerBits hi) (add-zero lo) in
           sym (ap (λ (n : ℕ). bitsWith f payload (crc5Of n)) first ∙ ap (bitsWith f payload) (sym worked) ∙ two-numbers crc5 crc5-small)

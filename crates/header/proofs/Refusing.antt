@@ -1,21 +1,21 @@
--- The writer's answer, row by row of the paper's table: rows 13 to 15, and what is written where none applies.
+-- The writer's answer, row by row of the paper's table, each behind those before it: rows 13 to 15, and what is written where none applies.
 -- Assumes nothing.
 use mathlib.Core.Path.{_≡_, refl, ap, _∙_}
-use mathlib.Core.List.{List, _++_}
+use mathlib.Core.List.{List, [], _∷_, _++_}
 use Prim.Native.Nat.{ℕ, _≤_, _<_}
 use lib.ListN.{length, drop}
 use borrow.Author.Tests.{lt-ltb, le-ltb}
-use Rattle.base.specs.Checks.{refusal}
-use Rattle.air.specs.Air.{airBits, airOf}
-use Rattle.header.specs.declared.Fields.{Fields}
 use Rattle.base.specs.declared.Written.the-variants.{Done, Refused}
+use Rattle.base.specs.Checks.{first, refusal}
+use Rattle.air.specs.Air.{airBits, payloadLimit, airOf}
+use Rattle.header.specs.declared.Fields.{Fields}
 use Rattle.header.specs.Fields.{fieldCount, valuesOf, codedOf}
-use Rattle.header.specs.Writing.{firstOver, payloadLimit, writeHeaderOf, bitsFor, airFor, HeaderWritten}
+use Rattle.header.specs.Writing.{firstOver, outOfRange, longPayload, writeHeaderOf, bitsFor, airFor, HeaderWritten}
 
--- the words that are spread are those of the header's bits
-pub spread-written : (f : Fields) (payload words out after : List ℕ) (n : ℕ) → words ≡ codedOf n → n ≡ bitsFor f payload → after ≡ airOf words ++ drop airBits out → after ≡ airFor f payload ++ drop airBits out
+-- the words that are sent are those of the header's bits
+pub sent-written : (f : Fields) (payload words out after : List ℕ) (n : ℕ) → words ≡ codedOf n → n ≡ bitsFor f payload → after ≡ airOf words ++ drop airBits out → after ≡ airFor f payload ++ drop airBits out
 unfolding airFor
-spread-written f payload words out after n coded is e = e ∙ ap (λ (l : List ℕ). airOf l ++ drop airBits out) (coded ∙ ap codedOf is)
+sent-written f payload words out after n coded is e = e ∙ ap (λ (l : List ℕ). airOf l ++ drop airBits out) (coded ∙ ap codedOf is)
 
 pub ranges : (f : Fields) (over : ℕ) → over ≡ firstOver (valuesOf f) → fieldCount ≤ over → fieldCount ≤ firstOver (valuesOf f)
 ranges f over found within = rw found at within
@@ -26,15 +26,19 @@ module _ (f : Fields) (payload out : List ℕ) where
   gives-13 h = record { answered = rw (lt-ltb (length out) airBits h); bytes = refl }
 
   module _ (room : airBits ≤ length out) (over : ℕ) (found : over ≡ firstOver (valuesOf f)) where
-    pub gives-14 : over < fieldCount → HeaderWritten f payload out (Refused (refusal 14 over)) out
+    past-13 : first Done (outOfRange f ∷ longPayload payload ∷ []) ≡ writeHeaderOf f payload (length out)
     unfolding writeHeaderOf
-    gives-14 h = record { answered = rw (le-ltb (length out) airBits room, ← found, lt-ltb over fieldCount h); bytes = refl }
+    past-13 = rw (le-ltb (length out) airBits room)
+
+    pub gives-14 : over < fieldCount → HeaderWritten f payload out (Refused (refusal 14 over)) out
+    gives-14 h = record { answered = rw (← past-13, ← found, lt-ltb over fieldCount h); bytes = refl }
 
     module _ (within : fieldCount ≤ over) where
+      past-14 : first Done (longPayload payload ∷ []) ≡ writeHeaderOf f payload (length out)
+      past-14 = rw (← past-13, ← found, le-ltb over fieldCount within)
+
       pub gives-15 : payloadLimit < length payload → HeaderWritten f payload out (Refused (refusal 15 (length payload))) out
-      unfolding writeHeaderOf
-      gives-15 h = record { answered = rw (le-ltb (length out) airBits room, ← found, le-ltb over fieldCount within, lt-ltb payloadLimit (length payload) h); bytes = refl }
+      gives-15 h = record { answered = rw (← past-14, lt-ltb payloadLimit (length payload) h); bytes = refl }
 
       pub writes : length payload ≤ payloadLimit → (after : List ℕ) → after ≡ airFor f payload ++ drop airBits out → HeaderWritten f payload out Done after
-      unfolding writeHeaderOf
-      writes h after e = record { answered = rw (le-ltb (length out) airBits room, ← found, le-ltb over fieldCount within, le-ltb payloadLimit (length payload) h); bytes = e }
+      writes h after e = record { answered = rw (← past-14, le-ltb payloadLimit (length payload) h); bytes = e }

@@ -7,9 +7,12 @@ use native.Mathlib.Nat.{mod-eq-of-lt, zero-add}
 use Rattle.base.specs.Parts.{partsOf, joined}
 use Rattle.base.proofs.Joined.{parts-append, join-parts}
 use Rattle.header.specs.declared.Header.{Header}
-use Rattle.header.specs.Fields.{upperWidths, lowerWidths, widths, valuesOf, headerFrom, headerOf}
+use Rattle.header.specs.Fields.{widths, valuesOf, headerFrom, headerOf}
+use Rattle.crc.specs.Halves.{headerBits, loWidth}
+use Rattle.crc.specs.Crc5.{headerWidth}
+use Rattle.header.specs.HalfWidths.{lowerWidths, upperWidths}
 
-pub unpacked : (hi lo : ℕ) → lo < 2 ^ 40 → headerFrom (partsOf upperWidths hi ++ partsOf lowerWidths lo) ≡ headerOf (hi * 2 ^ 40 + lo)
+pub unpacked : (hi lo : ℕ) → lo < 2 ^ loWidth → headerFrom (partsOf upperWidths hi ++ partsOf lowerWidths lo) ≡ headerOf (headerBits hi lo)
 unfolding headerOf
 unpacked hi lo h = ap headerFrom (sym (parts-append upperWidths lowerWidths hi lo h))
 
@@ -17,6 +20,6 @@ unpacked hi lo h = ap headerFrom (sym (parts-append upperWidths lowerWidths hi l
 abbrev pub valuesIn : Header → List ℕ
 valuesIn h = valuesOf (h .«fields») ++ (h .«pdu_length» ∷ h .«crc13» ∷ h .«crc5» ∷ [])
 
-pub header-bits : (n : ℕ) → n < 2 ^ 70 → joined widths (valuesIn (headerOf n)) ≡ n
+pub header-bits : (n : ℕ) → n < 2 ^ headerWidth → joined widths (valuesIn (headerOf n)) ≡ n
 unfolding headerOf
 header-bits n small = join-parts 0 widths n ∙ zero-add (n % 2 ^ 70) ∙ mod-eq-of-lt small

@@ -21,6 +21,7 @@ use Rattle.header.specs.declared.Answer.{Answer}
 use Rattle.header.specs.declared.Answer.the-variants.{Accepted}
 use Rattle.header.specs.Fields.{dataWidths, headerOf, bitsOfWords}
 use Rattle.header.specs.Reading.{headerChecks}
+use Rattle.crc.specs.Halves.{headerBits, hiWidth, loWidth}
 
 -- all are words
 abbrev pub AreWords : List ℕ → Type 0
@@ -107,13 +108,13 @@ module _ (words : List ℕ) (long : length words ≡ wordCount) (ok : AreWords w
   lower-within : InWidths (replicate 8 5) (map dataOf (take 8 (drop 6 words)))
   lower-within = rw lower-long at (data-within (take 8 (drop 6 words)) (lower-words words ok))
 
-  pub upper-small : hi < 2 ^ 30
+  pub upper-small : hi < 2 ^ hiWidth
   upper-small = rw (upper, upper-long) (rw upper-long at (join-lt (data-within (take 6 words) (upper-words words ok))))
 
-  pub lower-small : lo < 2 ^ 40
+  pub lower-small : lo < 2 ^ loWidth
   lower-small = rw (lower, lower-long) (join-lt lower-within)
 
-  pub halves : hi * 2 ^ 40 + lo ≡ bitsOfWords words
+  pub halves : headerBits hi lo ≡ bitsOfWords words
   unfolding bitsOfWords
   halves =
       let whole : take 6 words ++ take 8 (drop 6 words) ≡ words =
@@ -124,6 +125,6 @@ module _ (words : List ℕ) (long : length words ≡ wordCount) (ok : AreWords w
       ∙ ap (joined dataWidths) (sym (map-append dataOf (take 6 words) (take 8 (drop 6 words))) ∙ ap (map dataOf) whole))
 
   -- so what is judged of the two numbers is judged of the words
-  pub judged-halves : (flips : ℕ) (r : Answer) → r ≡ first (Accepted (headerOf (hi * 2 ^ 40 + lo)) flips) (headerChecks (hi * 2 ^ 40 + lo))
+  pub judged-halves : (flips : ℕ) (r : Answer) → r ≡ first (Accepted (headerOf (headerBits hi lo)) flips) (headerChecks (headerBits hi lo))
       → r ≡ first (Accepted (headerOf (bitsOfWords words)) flips) (headerChecks (bitsOfWords words))
   judged-halves flips r e = rw halves at e

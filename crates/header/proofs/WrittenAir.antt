@@ -5,39 +5,33 @@ use mathlib.Core.List.{List}
 use Prim.Native.Nat.{ℕ, _≤_}
 use lib.ListN.{length, take, drop}
 use lib.Seq.{take-at}
-use borrow.Author.Tests.{ltb-false}
+use borrow.Author.Needs.{needs}
 use Rattle.base.specs.Parts.{joined}
 use Rattle.base.proofs.First.{first-passes}
-use Rattle.base.proofs.Exactly.{done-apart}
+use Rattle.base.proofs.Exactly.{not-done}
 use Rattle.air.specs.Air.{airBits}
-use Rattle.air.proofs.Places.{air-length}
 use Rattle.header.specs.declared.Fields.{Fields}
 use Rattle.header.specs.declared.Header.{Header}
 use Rattle.base.specs.declared.Written.the-variants.{Done}
-use Rattle.header.specs.Fields.{widths, fieldCount, valuesOf, headerOf, bitsOfWords, codedOf, ValidWords}
-use Rattle.header.specs.Writing.{firstOver, payloadLimit, writeChecks, writeHeaderOf, bitsFor, headerFor, airFor, HeaderWritten}
+use Rattle.header.specs.Fields.{widths, headerOf, bitsOfWords, codedOf}
+use Rattle.header.specs.Writing.{writeChecks, writeHeaderOf, bitsFor, headerFor, airFor, HeaderWritten}
 use Rattle.header.proofs.Unpacking.{valuesIn, header-bits}
 use Rattle.header.proofs.Carried.{carried-lt, coded-only}
+use Rattle.air.specs.Closeness.{ValidWords}
+use Rattle.header.proofs.Passed.{Writable, write-passed}
+use Rattle.header.proofs.RoundTrip.{air-for-length}
 
-pub air-for-length : (f : Fields) (payload : List ℕ) → length (airFor f payload) ≡ airBits
-unfolding airFor
-air-for-length f payload = air-length (codedOf (bitsFor f payload))
-
--- a header that was written: its fields are in range, its payload is not too long, and its bits stand in front
-pub record Taken (f : Fields) (payload after : List ℕ) : Type 0 where
-  pub ranges : fieldCount ≤ firstOver (valuesOf f)
-  pub short : length payload ≤ payloadLimit
+-- a header that was written: nothing stood against it, and its bits stand in front
+pub record Put (f : Fields) (payload after : List ℕ) : Type 0 where
+  pub writable : Writable f payload
   pub air : take airBits after ≡ airFor f payload
 
-pub taken : (f : Fields) (payload before after : List ℕ) → HeaderWritten f payload before Done after → Taken f payload after
+pub written : (f : Fields) (payload before after : List ℕ) → HeaderWritten f payload before Done after → Put f payload after
 unfolding writeHeaderOf
-taken f payload before after so =
-    let passed = first-passes Done Done (writeChecks f payload (length before)) ((λ e. done-apart _ (sym e)), ((λ e. done-apart _ (sym e)), ((λ e. done-apart _ (sym e)), tt))) (sym (so .answered)) in
-    record {
-      ranges = ltb-false (firstOver (valuesOf f)) fieldCount (passed .1 .1 .0);
-      short = ltb-false payloadLimit (length payload) (passed .1 .1 .1 .0);
-      air = rw (so .bytes) (take-at (airFor f payload) (drop airBits before) airBits (air-for-length f payload));
-    }
+written f payload before after so = record {
+  writable = write-passed f payload (length before) (first-passes Done Done (writeChecks f payload (length before)) (search (needs, not-done)) (sym (so .answered)) .1);
+  air = rw (so .bytes) (take-at (airFor f payload) (drop airBits before) airBits (air-for-length f payload));
+}
 
 -- valid words that carry the header of some fields and a payload are those that are written for them
 pub words-only : (f : Fields) (payload words : List ℕ) → ValidWords words → headerFor f payload ≡ headerOf (bitsOfWords words) → words ≡ codedOf (bitsFor f payload)

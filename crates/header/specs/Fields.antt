@@ -6,7 +6,7 @@ use Prim.Native.Nat.{ℕ, _+_, _-_, _*_, _/_, _%_, _<_}
 use lib.ListN.{length, getD, take, drop, replicate}
 use Rattle.base.specs.Lists.{tabulate}
 use Rattle.base.specs.Parts.{partsOf, joined}
-use Rattle.word.specs.Words.{Valid, dataOf, encodeOf}
+use Rattle.word.specs.Words.{dataOf, encodeOf, positions}
 use Rattle.air.specs.Air.{wordCount}
 use Rattle.header.specs.declared.Fields.{Fields}
 use Rattle.header.specs.declared.Header.{Header}
@@ -16,13 +16,6 @@ use Rattle.header.specs.declared.Header.{Header}
 -- CRC5 5."
 abbrev pub widths : List ℕ
 widths = 7 ∷ 7 ∷ 4 ∷ 4 ∷ 4 ∷ 4 ∷ 4 ∷ 2 ∷ 1 ∷ 1 ∷ 1 ∷ 1 ∷ 1 ∷ 1 ∷ 10 ∷ 13 ∷ 5 ∷ []
-
--- bits 0 to 29 are six fields, and bits 30 to 69 the other eleven
-abbrev pub upperWidths : List ℕ
-upperWidths = take 6 widths
-
-abbrev pub lowerWidths : List ℕ
-lowerWidths = drop 6 widths
 
 -- fields 0 to 13, those that a writer is handed
 abbrev pub fieldCount : ℕ
@@ -93,11 +86,6 @@ dataAt n j = getD (partsOf dataWidths n) j 0
 unfoldable pub codedOf : ℕ → List ℕ
 codedOf n = tabulate wordCount (λ j. encodeOf (dataAt n j))
 
--- fourteen valid words
-pub record ValidWords (words : List ℕ) : Type 0 where
-  pub long : length words ≡ wordCount
-  pub each : (j : ℕ) → j < wordCount → Valid (getD words j 0)
-
 -- "Bit 5j+t stands at position 14-t of its word", and so travels at air bit 14 (14 - t) + j
 abbrev pub travelsAt : ℕ → ℕ
-travelsAt k = wordCount * (14 - k % 5) + k / 5
+travelsAt k = wordCount * (positions - 1 - k % 5) + k / 5

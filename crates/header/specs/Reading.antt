@@ -8,38 +8,65 @@ use lib.ListN.{length}
 use Rattle.base.specs.Checks.{Check, check, first, refusal}
 use Rattle.crc.specs.Crc5.{crc5Of}
 use Rattle.air.specs.Air.{wordCount, airBits, wordsOf, firstNoBit}
-use Rattle.air.specs.Mends.{firstBeyond, repairedOf, flipsIn}
+use Rattle.air.specs.WordRepairs.{firstBeyond, repairedOf, flipsIn}
 use Rattle.header.specs.declared.Answer.{Answer}
 use Rattle.header.specs.declared.Answer.the-variants.{Accepted, Refused}
 use Rattle.header.specs.Fields.{lastSource, lastCoding, headerOf, bitsOfWords}
 
--- the bits of the repaired header
-abbrev pub repairedBits : List ℕ → ℕ
-repairedBits air = bitsOfWords (repairedOf (wordsOf air))
+-- what a header is read from. How it is to be read has its place here too.
+pub record Signal : Type 0 where
+  pub air : List ℕ
 
--- the paper's table, rows 1 to 3: the air bits
-abbrev pub airChecks : List ℕ → List (Check Answer)
-airChecks air =
-    -- "header slice is not 210 long": its length
-    check (not (eqb (length air) airBits)) (Refused (refusal 1 (length air)))
-    -- "an element is above 1": lowest index
-    ∷ check (ltb (firstNoBit air) airBits) (Refused (refusal 2 (firstNoBit air)))
-    -- "a word is beyond repair": lowest word
-    ∷ check (ltb (firstBeyond (wordsOf air)) wordCount) (Refused (refusal 3 (firstBeyond (wordsOf air))))
-    ∷ []
+abbrev pub signal : List ℕ → Signal
+signal air = record { air = air }
+
+-- the words that arrived, and the bits of the repaired header
+abbrev pub arrived : Signal → List ℕ
+arrived s = wordsOf (s .air)
+
+abbrev pub repairedBits : Signal → ℕ
+repairedBits s = bitsOfWords (repairedOf (arrived s))
+
+-- THE PAPER'S TABLE, rows 1 to 3: the air bits
+-- 1, "header slice is not 210 long": its length
+abbrev pub not210Long : Signal → Check Answer
+not210Long s = check (not (eqb (length (s .air)) airBits)) (Refused (refusal 1 (length (s .air))))
+
+-- 2, "an element is above 1": lowest index
+abbrev pub noBit : Signal → Check Answer
+noBit s = check (ltb (firstNoBit (s .air)) airBits) (Refused (refusal 2 (firstNoBit (s .air))))
+
+-- 3, "a word is beyond repair": lowest word
+abbrev pub beyondRepair : Signal → Check Answer
+beyondRepair s = check (ltb (firstBeyond (arrived s)) wordCount) (Refused (refusal 3 (firstBeyond (arrived s))))
+
+abbrev pub airChecks : Signal → List (Check Answer)
+airChecks s = not210Long s ∷ noBit s ∷ beyondRepair s ∷ []
 
 -- rows 4 to 6: the repaired header, whose bits are n
+-- 4, "CRC5 differs": CRC5 worked out
+abbrev pub crc5Differs : ℕ → Check Answer
+crc5Differs n = check (not (eqb (crc5Of n) (headerOf n .«crc5»))) (Refused (refusal 4 (crc5Of n)))
+
+-- 5, "SrcId above 7": SrcId
+abbrev pub unknownSource : ℕ → Check Answer
+unknownSource n = check (ltb lastSource (headerOf n .«fields» .«src_id»)) (Refused (refusal 5 (headerOf n .«fields» .«src_id»)))
+
+-- 6, "AiTypeSrc above 3": AiTypeSrc
+abbrev pub unknownCoding : ℕ → Check Answer
+unknownCoding n = check (ltb lastCoding (headerOf n .«fields» .«ai_type_src»)) (Refused (refusal 6 (headerOf n .«fields» .«ai_type_src»)))
+
 abbrev pub headerChecks : ℕ → List (Check Answer)
-headerChecks n =
-    -- "CRC5 differs": CRC5 worked out
-    check (not (eqb (crc5Of n) (headerOf n .«crc5»))) (Refused (refusal 4 (crc5Of n)))
-    -- "SrcId above 7": SrcId
-    ∷ check (ltb lastSource (headerOf n .«fields» .«src_id»)) (Refused (refusal 5 (headerOf n .«fields» .«src_id»)))
-    -- "AiTypeSrc above 3": AiTypeSrc
-    ∷ check (ltb lastCoding (headerOf n .«fields» .«ai_type_src»)) (Refused (refusal 6 (headerOf n .«fields» .«ai_type_src»)))
-    ∷ []
+headerChecks n = crc5Differs n ∷ unknownSource n ∷ unknownCoding n ∷ []
+
+-- all six, in the paper's order
+abbrev pub signalChecks : Signal → List (Check Answer)
+signalChecks s = airChecks s ++ headerChecks (repairedBits s)
+
+-- what is answered where no row applies
+abbrev pub repairedAnswer : Signal → Answer
+repairedAnswer s = Accepted (headerOf (repairedBits s)) (flipsIn (arrived s))
 
 -- "in this order; the first that applies is given"
-unfoldable pub readHeaderOf : List ℕ → Answer
-readHeaderOf air =
-    first (Accepted (headerOf (repairedBits air)) (flipsIn (wordsOf air))) (airChecks air ++ headerChecks (repairedBits air))
+unfoldable pub readHeaderOf : Signal → Answer
+readHeaderOf s = first (repairedAnswer s) (signalChecks s)

@@ -11,7 +11,7 @@ use Rattle.base.specs.Lists.{lowest}
 use Rattle.base.specs.Parts.{joined}
 use Rattle.crc.specs.Crc.{crc13Of}
 use Rattle.crc.specs.Crc5.{crc5Of}
-use Rattle.air.specs.Air.{airBits, airOf}
+use Rattle.air.specs.Air.{airBits, payloadLimit, airOf}
 use Rattle.header.specs.declared.Fields.{Fields}
 use Rattle.header.specs.declared.Header.{Header}
 use Rattle.base.specs.declared.Written.{Written}
@@ -26,20 +26,21 @@ mostOf k = cond (eqb k 0) lastSource (cond (eqb k 5) lastCoding (2 ^ getD widths
 abbrev pub firstOver : List ℕ → ℕ
 firstOver values = lowest fieldCount (λ k. ltb (mostOf k) (getD values k 0))
 
--- "the field has 10 bits, so 1,023 is the limit"
-abbrev pub payloadLimit : ℕ
-payloadLimit = 1023
+-- THE PAPER'S TABLE, rows 13 to 15
+-- 13, "output under 210": its length
+abbrev pub shortOutput : ℕ → Check Written
+shortOutput room = check (ltb room airBits) (Refused (refusal 13 room))
 
--- the paper's rows 13 to 15
+-- 14, "a field out of range": the lowest
+abbrev pub outOfRange : Fields → Check Written
+outOfRange f = check (ltb (firstOver (valuesOf f)) fieldCount) (Refused (refusal 14 (firstOver (valuesOf f))))
+
+-- 15, "payload over 1,023": its length
+abbrev pub longPayload : List ℕ → Check Written
+longPayload payload = check (ltb payloadLimit (length payload)) (Refused (refusal 15 (length payload)))
+
 abbrev pub writeChecks : Fields → List ℕ → ℕ → List (Check Written)
-writeChecks f payload room =
-    -- "output under 210": its length
-    check (ltb room airBits) (Refused (refusal 13 room))
-    -- "a field out of range"
-    ∷ check (ltb (firstOver (valuesOf f)) fieldCount) (Refused (refusal 14 (firstOver (valuesOf f))))
-    -- "payload over 1,023": its length
-    ∷ check (ltb payloadLimit (length payload)) (Refused (refusal 15 (length payload)))
-    ∷ []
+writeChecks f payload room = shortOutput room ∷ outOfRange f ∷ longPayload payload ∷ []
 
 unfoldable pub writeHeaderOf : Fields → List ℕ → ℕ → Written
 writeHeaderOf f payload room = first Done (writeChecks f payload room)

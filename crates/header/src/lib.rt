@@ -10,8 +10,13 @@ ghost use mathlib.Core.Path.{_≡_};
 ghost use Prim.Native.Nat.{_+_};
 ghost use Rattle.header.specs.Fields.{satelliteOf, radioOf};
 
-// The most bytes that a payload may have: "the field has 10 bits, so 1,023 is the limit"
-pub const LONGEST_PAYLOAD: usize = 1023;
+// The last SrcId and the last AiTypeSrc that are not refused.
+pub const LAST_SOURCE: u8 = 7;
+
+const LAST_CODING: u8 = 3;
+
+// Fields 0 to 13 are those that a writer is handed.
+const FIELD_COUNT: usize = 14;
 
 // Fields 0 to 13, by the paper's names: those that a writer is handed.
 pub struct Fields {

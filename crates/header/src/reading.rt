@@ -2,6 +2,10 @@
 use crate::Answer;
 use crate::Fields;
 use crate::Header;
+use crate::LAST_CODING;
+use crate::LAST_SOURCE;
+use air::AIR_BITS;
+use air::WORD_COUNT;
 use base::BEYOND_REPAIR;
 use base::CRC5_DIFFERS;
 use base::NO_BIT;
@@ -9,6 +13,8 @@ use base::NOT_210_LONG;
 use base::Refusal;
 use base::UNKNOWN_CODING;
 use base::UNKNOWN_SOURCE;
+use word::DATA_BIT;
+use word::table::TABLE_ROWS;
 ghost use mathlib.Core.Path.{_≡_};
 ghost use mathlib.Core.List.{map};
 ghost use Prim.Native.Nat.{ℕ, _+_, _*_, _<_, _≤_, _^_};
@@ -20,12 +26,13 @@ ghost use Rattle.word.specs.Words.{wordLimit, dataOf};
 ghost use Rattle.word.specs.Repairs.{syndromes};
 ghost use Rattle.air.specs.Air.{airBits};
 ghost use Rattle.header.specs.Fields.{headerOf, bitsOfWords};
-ghost use Rattle.header.specs.Reading.{headerChecks, readHeaderOf};
+ghost use Rattle.header.specs.Reading.{signal, headerChecks, readHeaderOf};
+ghost use Rattle.crc.specs.Halves.{headerBits, hiWidth, loWidth};
 
 // The fields of header bits 0 to 29, `hi`, and 30 to 69, `lo`.
 fn unpack(hi: u64, lo: u64) -> Header
-    requires { ⌜ lo < 2 ^ 40 ⌝ }
-    ensures { λ r. ⌜ r ≡ headerOf (hi * 2 ^ 40 + lo) ⌝ }
+    requires { ⌜ lo < 2 ^ loWidth ⌝ }
+    ensures { λ r. ⌜ r ≡ headerOf (headerBits hi lo) ⌝ }
 {
     Header {
         fields: Fields {
@@ -54,7 +61,7 @@ fn unpack(hi: u64, lo: u64) -> Header
 fn data_of(word: u16) -> u64
     ensures { λ r. ⌜ r ≡ dataOf word ⌝ }
 {
-    (word / 1024) as u64
+    (word / DATA_BIT) as u64
 }
 
 // The data of up to eight words, five bits each, as one number.
@@ -74,9 +81,9 @@ fn collect(words: &[u16]) -> u64
 
 // Checks 4 to 6 on the bits of a repaired header.
 fn judge(hi: u64, lo: u64, flips: u32) -> Answer
-    requires { ⌜ hi < 2 ^ 30 ⌝ }
-    requires { ⌜ lo < 2 ^ 40 ⌝ }
-    ensures { λ r. ⌜ r ≡ first (Answer.Accepted (headerOf (hi * 2 ^ 40 + lo)) flips) (headerChecks (hi * 2 ^ 40 + lo)) ⌝ }
+    requires { ⌜ hi < 2 ^ hiWidth ⌝ }
+    requires { ⌜ lo < 2 ^ loWidth ⌝ }
+    ensures { λ r. ⌜ r ≡ first (Answer.Accepted (headerOf (headerBits hi lo)) flips) (headerChecks (headerBits hi lo)) ⌝ }
 {
     let header = unpack(hi, lo);
     let crc5 = crc::crc5(hi, lo);
@@ -87,14 +94,14 @@ fn judge(hi: u64, lo: u64, flips: u32) -> Answer
         });
     }
     let src_id = header.fields.src_id;
-    if 7 < src_id {
+    if LAST_SOURCE < src_id {
         return Answer::Refused(Refusal {
             number: UNKNOWN_SOURCE,
             place: src_id as usize,
         });
     }
     let ai_type_src = header.fields.ai_type_src;
-    if 3 < ai_type_src {
+    if LAST_CODING < ai_type_src {
         return Answer::Refused(Refusal {
             number: UNKNOWN_CODING,
             place: ai_type_src as usize,
@@ -104,61 +111,61 @@ fn judge(hi: u64, lo: u64, flips: u32) -> Answer
 }
 
 // The same on fourteen repaired words.
-fn judge_words(words: [u16; 14], flips: u32) -> Answer
+fn judge_words(words: [u16; WORD_COUNT], flips: u32) -> Answer
     requires { ⌜ ((k : ℕ) → getD words k 0 < wordLimit) ⌝ }
     ensures { λ r. ⌜ r ≡ first (Answer.Accepted (headerOf (bitsOfWords words)) flips) (headerChecks (bitsOfWords words)) ⌝ }
 {
     let hi = collect(&words[0..6]);
-    let lo = collect(&words[6..14]);
+    let lo = collect(&words[6..WORD_COUNT]);
     judge(hi, lo, flips)
 }
 
 // Checks 3 to 6 on 210 air bits.
-fn read_bits(table: &[u16; 1024], air: &[u8]) -> Answer
+fn read_bits(table: &[u16; TABLE_ROWS], air: &[u8]) -> Answer
     requires { ⌜ now table ≡ syndromes ⌝ }
     requires { ⌜ length (now air) ≡ airBits ⌝ }
     requires { ⌜ AreBits (now air) ⌝ }
-    ensures { λ r. ⌜ r ≡ readHeaderOf (now (air .entry)) ⌝ }
+    ensures { λ r. ⌜ r ≡ readHeaderOf (signal (now (air .entry))) ⌝ }
 {
-    let mended = air::mend(table, air::words(air));
-    let beyond = mended.beyond;
-    if beyond < 14 {
+    let repaired = air::repair_words(table, air::words(air));
+    let beyond = repaired.beyond;
+    if beyond < WORD_COUNT {
         return Answer::Refused(Refusal {
             number: BEYOND_REPAIR,
             place: beyond,
         });
     }
-    let words = mended.words;
-    let flips = mended.flips;
+    let words = repaired.words;
+    let flips = repaired.flips;
     judge_words(words, flips)
 }
 
 // The reader of a header alone, by a lent copy of the syndrome table: what a caller with many headers copies once.
-pub fn read_header_in(table: &[u16; 1024], header: &[u8]) -> Answer
+pub fn read_header_in(table: &[u16; TABLE_ROWS], air: &[u8]) -> Answer
     requires { ⌜ now table ≡ syndromes ⌝ }
-    ensures { λ r. ⌜ r ≡ readHeaderOf (now (header .entry)) ⌝ }
+    ensures { λ r. ⌜ r ≡ readHeaderOf (signal (now (air .entry))) ⌝ }
 {
-    let n = header.len();
-    if n != 210 {
+    let n = air.len();
+    if n != AIR_BITS {
         return Answer::Refused(Refusal {
             number: NOT_210_LONG,
             place: n,
         });
     }
-    let at = air::first_no_bit(header);
-    if at < 210 {
+    let at = air::first_no_bit(air);
+    if at < AIR_BITS {
         return Answer::Refused(Refusal {
             number: NO_BIT,
             place: at,
         });
     }
-    read_bits(table, header)
+    read_bits(table, air)
 }
 
 // The reader of a header alone, of any bytes: the repaired header and the number of flips, or the first refusal of 1 to 6.
-pub fn read_header(header: &[u8]) -> Answer
-    ensures { λ r. ⌜ r ≡ readHeaderOf (now (header .entry)) ⌝ }
+pub fn read_header(air: &[u8]) -> Answer
+    ensures { λ r. ⌜ r ≡ readHeaderOf (signal (now (air .entry))) ⌝ }
 {
     let table = word::table::whole();
-    read_header_in(&table, header)
+    read_header_in(&table, air)
 }

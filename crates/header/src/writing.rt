@@ -1,6 +1,11 @@
-// The header writer: the fields make 70 bits, the bits make fourteen words, and the words are spread on the air.
+// The header writer: the fields make 70 bits, the bits make fourteen words, and the words are sent.
+use crate::FIELD_COUNT;
 use crate::Fields;
-use crate::LONGEST_PAYLOAD;
+use crate::LAST_CODING;
+use crate::LAST_SOURCE;
+use air::AIR_BITS;
+use air::LONGEST_PAYLOAD;
+use air::WORD_COUNT;
 use base::LONG_PAYLOAD;
 use base::OUT_OF_RANGE;
 use base::Refusal;
@@ -11,19 +16,36 @@ ghost use mathlib.Core.List.{[], _∷_, _++_};
 ghost use Prim.Native.Nat.{_+_, _*_, _<_, _≤_, _^_};
 ghost use lib.ListN.{length, take, drop};
 ghost use Rattle.base.specs.Parts.{joined};
-ghost use Rattle.air.specs.Air.{wordCount, airBits};
-ghost use Rattle.header.specs.Fields.{upperWidths, lowerWidths, fieldCount, valuesOf, dataAt, codedOf};
-ghost use Rattle.header.specs.Writing.{firstOver, payloadLimit, airFor, HeaderWritten};
+ghost use Rattle.air.specs.Air.{wordCount, airBits, payloadLimit};
+ghost use Rattle.header.specs.Fields.{fieldCount, valuesOf, dataAt, codedOf};
+ghost use Rattle.header.specs.Writing.{firstOver, airFor, HeaderWritten};
+ghost use Rattle.crc.specs.Halves.{headerBits, loWidth};
+ghost use Rattle.header.specs.HalfWidths.{lowerWidths, upperFields, upperWidths};
 
 // The most that fields 0 to 13 may be: their widths bound them, SrcId also 7 and AiTypeSrc also 3.
-const MOST: [u8; 14] = [7, 127, 15, 15, 15, 3, 15, 3, 1, 1, 1, 1, 1, 1];
+const MOST: [u8; FIELD_COUNT] = [
+    LAST_SOURCE,
+    127,
+    15,
+    15,
+    15,
+    LAST_CODING,
+    15,
+    3,
+    1,
+    1,
+    1,
+    1,
+    1,
+    1,
+];
 
 // The lowest of fourteen values above its bound, or 14.
-fn first_above(values: [u8; 14]) -> usize
+fn first_above(values: [u8; FIELD_COUNT]) -> usize
     ensures { λ r. ⌜ r ≡ firstOver values ⌝ }
 {
     let mut k = 0;
-    while k < 14 {
+    while k < FIELD_COUNT {
         if MOST[k] < values[k] {
             return k;
         }
@@ -33,7 +55,7 @@ fn first_above(values: [u8; 14]) -> usize
 }
 
 // The values of fields 0 to 13.
-fn values(f: Fields) -> [u8; 14]
+fn values(f: Fields) -> [u8; FIELD_COUNT]
     ensures { λ r. ⌜ r ≡ valuesOf f ⌝ }
 {
     [
@@ -74,7 +96,7 @@ fn upper_of(src_id: u8, dst_id: u8, fr_cnt_tx: u8, fr_cnt_rx: u8, snr: u8, ai_ty
 }
 
 fn upper(f: Fields) -> u64
-    ensures { λ r. ⌜ r ≡ joined upperWidths (take 6 (valuesOf f)) ⌝ }
+    ensures { λ r. ⌜ r ≡ joined upperWidths (take upperFields (valuesOf f)) ⌝ }
 {
     upper_of(
         f.src_id,
@@ -114,7 +136,7 @@ fn lower_of(
 }
 
 fn lower(f: Fields, pdu_length: u16, crc13: u16) -> u64
-    ensures { λ r. ⌜ r ≡ joined lowerWidths (drop 6 (valuesOf f) ++ («pdu_length» ∷ «crc13» ∷ 0 ∷ [])) ⌝ }
+    ensures { λ r. ⌜ r ≡ joined lowerWidths (drop upperFields (valuesOf f) ++ («pdu_length» ∷ «crc13» ∷ 0 ∷ [])) ⌝ }
 {
     lower_of(
         f.ai_type_dst,
@@ -132,9 +154,9 @@ fn lower(f: Fields, pdu_length: u16, crc13: u16) -> u64
 
 // The data of word j.
 fn data_at(hi: u64, lo: u64, j: usize) -> u16
-    requires { ⌜ lo < 2 ^ 40 ⌝ }
+    requires { ⌜ lo < 2 ^ loWidth ⌝ }
     requires { ⌜ j < wordCount ⌝ }
-    ensures { λ r. ⌜ r ≡ dataAt (hi * 2 ^ 40 + lo) j ⌝ }
+    ensures { λ r. ⌜ r ≡ dataAt (headerBits hi lo) j ⌝ }
 {
     let end = 5 * j as u64 + 5;
     if end <= 30 {
@@ -144,13 +166,13 @@ fn data_at(hi: u64, lo: u64, j: usize) -> u16
 }
 
 // The fourteen valid words of a header's bits.
-fn coded(hi: u64, lo: u64) -> [u16; 14]
-    requires { ⌜ lo < 2 ^ 40 ⌝ }
-    ensures { λ r. ⌜ r ≡ codedOf (hi * 2 ^ 40 + lo) ⌝ }
+fn coded(hi: u64, lo: u64) -> [u16; WORD_COUNT]
+    requires { ⌜ lo < 2 ^ loWidth ⌝ }
+    ensures { λ r. ⌜ r ≡ codedOf (headerBits hi lo) ⌝ }
 {
-    let mut words = [0u16; 14];
+    let mut words = [0u16; WORD_COUNT];
     let mut j = 0;
-    while j < 14 {
+    while j < WORD_COUNT {
         words[j] = word::encode(data_at(hi, lo, j));
         j += 1;
     }
@@ -170,7 +192,7 @@ fn put_header(fields: Fields, payload: &[u8], out: &mut [u8])
     let lo = lower(fields, pdu_length, crc13);
     let crc5 = crc::crc5(hi, lo) as u64;
     let words = coded(hi, lo + crc5);
-    air::spread(words, out);
+    air::send(words, out);
 }
 
 // The writer: the header of a payload as 210 bytes, each 0 or 1, at the start of the output; or the first refusal of
@@ -179,14 +201,14 @@ pub fn write_header(fields: Fields, payload: &[u8], out: &mut [u8]) -> Written
     ensures { λ r. ⌜ HeaderWritten fields (now (payload .entry)) (now (out .entry)) r (now (out .exit)) ⌝ }
 {
     let room = out.len();
-    if room < 210 {
+    if room < AIR_BITS {
         return Written::Refused(Refusal {
             number: SHORT_OUTPUT,
             place: room,
         });
     }
     let over = first_over(fields);
-    if over < 14 {
+    if over < FIELD_COUNT {
         return Written::Refused(Refusal {
             number: OUT_OF_RANGE,
             place: over,

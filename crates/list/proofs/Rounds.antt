@@ -6,16 +6,16 @@ use mathlib.Core.List.{List}
 use Prim.Native.Nat.{ℕ, _<_, _≤_}
 use native.Mathlib.Omega.{arith}
 use lib.ListN.{length}
-use Rattle.header.specs.Writing.{payloadLimit}
+use Rattle.air.specs.Air.{payloadLimit}
 use Rattle.sheet.specs.declared.Sheet.{Sheet}
 use Rattle.listing.specs.declared.Listed.{Listed}
-use Rattle.listing.specs.Records.{recordSize}
-use Rattle.listing.specs.Promises.{Lists}
+use Rattle.record.specs.Records.{recordSize}
+use Rattle.listing.specs.Promises.{Scanned}
 use Rattle.listing.proofs.Keeping.{left-short}
 use Rattle.list.specs.declared.Next.{Next}
 use Rattle.list.specs.declared.Next.the-variants.{More, Done, Failed}
 use Rattle.list.specs.declared.State.{State}
-use Rattle.list.specs.Turns.{nextOf, Turned}
+use Rattle.list.specs.Turns.{onwardOf, Turned}
 
 done-more : Done ≡ More → ⊥
 done-more e = let z : _≡_ {A = ℕ} 0 1 = cc in omega arith
@@ -24,7 +24,7 @@ failed-more : Failed ≡ More → ⊥
 failed-more e = let z : _≡_ {A = ℕ} 0 1 = cc in omega arith
 
 -- more is read only where the listing is not over
-more-open : (read : Next) (over : Bool) → nextOf read over ≡ More → over ≡ false
+more-open : (read : Next) (over : Bool) → onwardOf read over ≡ More → over ≡ false
 more-open read false e = refl
 more-open More true e = absurd (done-more e)
 more-open Done true e = absurd (done-more e)
@@ -34,8 +34,8 @@ more-open Failed true e = absurd (failed-more e)
 pub turn-fails : (sheet : Sheet) (kept : ℕ) → Turned (record { sheet = sheet; kept = kept; next = Failed })
 turn-fails sheet kept = record { short = λ e. absurd (failed-more e) }
 
-pub turn-goes-on : (sheet : Sheet) (l before : List ℕ) (at : ℕ) (after : List ℕ) (r : Listed) → Lists sheet l before at after r
-    → (read next : Next) → next ≡ nextOf read (r .over) → Turned (record { sheet = r .sheet; kept = r .left; next = next })
+pub turn-goes-on : (sheet : Sheet) (l before : List ℕ) (at : ℕ) (after : List ℕ) (r : Listed) → Scanned sheet l before at after r
+    → (read next : Next) → next ≡ onwardOf read (r .over) → Turned (record { sheet = r .sheet; kept = r .left; next = next })
 turn-goes-on sheet l before at after r so read next is =
     record { short = λ e. left-short sheet l before at after r so (more-open read (r .over) (sym is ∙ e)) }
 

@@ -2,14 +2,15 @@
 use libc::STDIN_FILENO;
 use libc::STDOUT_FILENO;
 use sheet::Sheet;
+use word::table::TABLE_ROWS;
 ghost use mathlib.Core.Path.{_≡_};
 ghost use Prim.Native.Nat.{_*_, _<_, _≤_};
 ghost use lib.ListN.{length};
 ghost use Rattle.word.specs.Repairs.{syndromes};
-ghost use Rattle.header.specs.Writing.{payloadLimit};
-ghost use Rattle.listing.specs.Records.{recordSize};
-ghost use Rattle.listing.specs.Promises.{lineRoom};
-ghost use Rattle.list.specs.Turns.{nextOf, Turned};
+ghost use Rattle.air.specs.Air.{payloadLimit};
+ghost use Rattle.record.specs.Records.{recordSize};
+ghost use Rattle.lines.specs.Rooms.{lineRoom};
+ghost use Rattle.list.specs.Turns.{onwardOf, Turned};
 
 // How to go on.
 enum Next {
@@ -76,7 +77,7 @@ fn write(text: &[u8]) -> bool {
 
 // How to go on after a read, where the listing may be over. A failed read stays one.
 fn after_read(read: Next, over: bool) -> Next
-    ensures { λ r. ⌜ r ≡ nextOf read over ⌝ }
+    ensures { λ r. ⌜ r ≡ onwardOf read over ⌝ }
 {
     match read {
         Next::More => {
@@ -91,7 +92,13 @@ fn after_read(read: Next, over: bool) -> Next
 }
 
 // Fills the buffer and writes the lines of its records.
-fn turn(table: &[u16; 1024], sheet: Sheet, kept: usize, buf: &mut [u8], out: &mut [u8]) -> State
+fn turn(
+    table: &[u16; TABLE_ROWS],
+    sheet: Sheet,
+    kept: usize,
+    buf: &mut [u8],
+    out: &mut [u8],
+) -> State
     requires { ⌜ now table ≡ syndromes ⌝ }
     requires { ⌜ kept < length (now buf) ⌝ }
     requires { ⌜ length (now buf) ≤ length (now out) ⌝ }
@@ -123,13 +130,13 @@ fn turn(table: &[u16; 1024], sheet: Sheet, kept: usize, buf: &mut [u8], out: &mu
 fn finish(out: &mut [u8], sheet: Sheet, left: usize)
     requires { ⌜ 2 * lineRoom ≤ length (now out) ⌝ }
 {
-    let n = listing::put_closing(out, 0, sheet, 0 < left);
+    let n = lines::put_closing(out, 0, sheet, 0 < left);
     write(&out[..n]);
 }
 
 // Lists the input, a buffer at a time. Where a read fails, the lines up to there are written, and no last line.
 // The turns are counted down from a number that no run uses up: a full buffer holds a record, and a sheet takes 65,535.
-fn list(table: &[u16; 1024], buf: &mut [u8], out: &mut [u8])
+fn list(table: &[u16; TABLE_ROWS], buf: &mut [u8], out: &mut [u8])
     requires { ⌜ now table ≡ syndromes ⌝ }
     requires { ⌜ recordSize payloadLimit ≤ length (now buf) ⌝ }
     requires { ⌜ length (now buf) ≤ length (now out) ⌝ }
@@ -160,7 +167,7 @@ fn main() {
     let table = word::table::whole();
     let mut buf = io::large_buffer();
     let mut out = io::large_buffer();
-    let n = listing::put_title(&mut out);
+    let n = lines::put_title(&mut out);
     if write(&out[..n]) {
         list(&table, &mut buf, &mut out);
     }

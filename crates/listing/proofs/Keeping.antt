@@ -1,4 +1,4 @@
--- A piece in a buffer: its lines are put, and what is left of it is kept at the buffer's front. And a whole input.
+-- A piece in a buffer: its lines are put, and what is left of it is kept at the buffer's front.
 -- Assumes nothing.
 use mathlib.Core.Path.{_≡_, sym, ap, _∙_}
 use mathlib.Core.Bool.{false}
@@ -9,16 +9,14 @@ use lib.Dec.{ltb}
 use lib.ListN.{length, take, drop, length-drop}
 use lib.Seq.{length-take-le, take-add, take-at, drop-at}
 use Rattle.text.specs.Text.{Put}
-use Rattle.text.proofs.Laid.{put-then}
-use Rattle.header.specs.Writing.{payloadLimit}
 use Rattle.sheet.specs.declared.Sheet.{Sheet}
-use Rattle.sheet.specs.Sheets.{newSheet}
 use Rattle.listing.specs.declared.Listed.{Listed}
-use Rattle.listing.specs.Records.{recordSize}
-use Rattle.listing.specs.Lines.{title, closingOf}
-use Rattle.listing.specs.Listing.{scanOf, listingOf}
-use Rattle.listing.specs.Promises.{Lists, Moved, Turns}
+use Rattle.record.specs.Records.{recordSize}
+use Rattle.listing.specs.Listing.{scanOf}
+use Rattle.listing.specs.Promises.{Scanned, Turns}
 use Rattle.listing.proofs.Scans.{scan-stopped, stopped-short, Suffix, scan-rest}
+use Rattle.record.specs.Moves.{Moved}
+use Rattle.air.specs.Air.{payloadLimit}
 
 module _ (l : List ℕ) (n : ℕ) (inside : n ≤ length l) where
   -- the first n bytes are n
@@ -29,10 +27,6 @@ module _ (l : List ℕ) (n : ℕ) (inside : n ≤ length l) where
   pub part-fits : (room : ℕ) → n ≤ room → 0 + length (take n l) ≤ room
   part-fits room h = omega (arith, part-size)
 
-  -- or where all of them have, and so many more
-  pub part-room : (more room : ℕ) → length l + more ≤ room → length (take n l) + more ≤ room
-  part-room more room h = omega (arith, part-size)
-
 -- so has what was put, with all before it
 pub put-size : {before text after : List ℕ} {at next : ℕ} → Put before at text after next → next ≡ length (take next after)
 put-size {before} {text} {after} {at} {next} put = part-size after next (omega (arith, put .fits, put .kept))
@@ -41,7 +35,7 @@ put-size {before} {text} {after} {at} {next} put = part-size after next (omega (
 drop-take : (from n : ℕ) (l : List ℕ) → from ≤ length l → drop from (take (from + n) l) ≡ take n (drop from l)
 drop-take from n l h = rw (take-add from n l) (drop-at (take from l) (take n (drop from l)) from (length-take-le from l h))
 
-module _ (sheet : Sheet) (buf : List ℕ) (end : ℕ) (inside : end ≤ length buf) (out out′ : List ℕ) (r : Listed) (so : Lists sheet (take end buf) out 0 out′ r) where
+module _ (sheet : Sheet) (buf : List ℕ) (end : ℕ) (inside : end ≤ length buf) (out out′ : List ℕ) (r : Listed) (so : Scanned sheet (take end buf) out 0 out′ r) where
   suffix : Suffix (take end buf) (scanOf sheet (take end buf) .rest)
   suffix = scan-rest sheet (take end buf)
 
@@ -78,15 +72,6 @@ kept-rest sheet buf end inside out buf′ out′ r turned =
     ∙ left-rest sheet buf end inside out out′ r (turned .listed)
 
 -- where the listing is not over, what is left is shorter than the longest record
-pub left-short : (sheet : Sheet) (l before : List ℕ) (at : ℕ) (after : List ℕ) (r : Listed) → Lists sheet l before at after r → r .over ≡ false → r .left < recordSize payloadLimit
+pub left-short : (sheet : Sheet) (l before : List ℕ) (at : ℕ) (after : List ℕ) (r : Listed) → Scanned sheet l before at after r → r .over ≡ false → r .left < recordSize payloadLimit
 left-short sheet l before at after r so e =
     rw (so .left-is) (stopped-short (scanOf sheet l .sheet) (scanOf sheet l .rest) (rw (← so .over-is, e) at (scan-stopped sheet l)))
-
--- the first line, the lines, and the closing
-pub tells : {out m n o : List ℕ} {at q : ℕ} (input : List ℕ) (sheet : Sheet) (r : Listed) → sheet ≡ newSheet
-    → Put out 0 title m at → Lists sheet input m at n r → Put n (r .to) (closingOf (r .sheet) (ltb 0 (r .left))) o q → Put out 0 (listingOf input) o q
-unfolding listingOf
-tells input sheet r new first listed last =
-    let lines = rw new at (listed .lines) in
-    let closing = rw (listed .sheet-is, listed .left-is, new) at last in
-    put-then first (put-then lines closing)

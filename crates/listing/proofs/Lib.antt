@@ -1,10 +1,6 @@
-pub mod Cuts
-pub mod Stays
 pub mod Scans
 pub mod Streaming
-pub mod Putting
 pub mod Taking
 pub mod Scanning
-pub mod Moving
 pub mod Keeping
 pub mod Worked

@@ -14,14 +14,15 @@ use Rattle.text.specs.Text.{Put}
 use Rattle.text.proofs.Laid.{put-none, put-then}
 use Rattle.sheet.specs.declared.Sheet.{Sheet}
 use Rattle.sheet.specs.Sheets.{heardOf, fullSheet, fullOf}
-use Rattle.listing.specs.declared.Cut.{Cut}
-use Rattle.listing.specs.declared.Cut.the-variants.{Whole, TooLong, Short}
+use Rattle.record.specs.declared.Cut.{Cut}
+use Rattle.record.specs.declared.Cut.the-variants.{Record, TooLong, Short}
 use Rattle.listing.specs.declared.Taken.{Taken}
-use Rattle.listing.specs.Records.{recordSize, cutOf}
+use Rattle.record.specs.Records.{recordSize, cutOf}
 use Rattle.listing.specs.Listing.{stay, after, lineIn, scanOf}
-use Rattle.listing.specs.Promises.{lineRoom, Takes, Lists}
-use Rattle.listing.proofs.Cuts.{WholeAt, whole-at}
+use Rattle.listing.specs.Promises.{Takes, Scanned}
+use Rattle.record.proofs.Cuts.{WholeAt, whole-at}
 use Rattle.listing.proofs.Scans.{Stopped, full, long, short, scan-stops, scan-takes}
+use Rattle.lines.specs.Rooms.{lineRoom}
 
 -- the bytes from `used` on, as the code lends them
 abbrev part : List ℕ → ℕ → List ℕ
@@ -48,7 +49,7 @@ module _ (start : Sheet) (l before : List ℕ) (at : ℕ) (out : List ℕ) (shee
   front : (e : Cut) → c ≡ e → cutOf (drop used l) ≡ e
   front e same = ap cutOf (sym (part-is l used)) ∙ sym is ∙ same
 
-  stops : (over : Bool) → Stopped sheet (drop used l) over → Lists start l before at out (record { sheet = sheet; left = length (part l used); to = to; over = over })
+  stops : (over : Bool) → Stopped sheet (drop used l) over → Scanned start l before at out (record { sheet = sheet; left = length (part l used); to = to; over = over })
   stops over stopped =
       let all : scanOf start l ≡ after (so .text) (stay sheet (drop used l) over) = so .left ∙ ap (after (so .text)) (scan-stops sheet (drop used l) over stopped) in
       record {
@@ -59,18 +60,18 @@ module _ (start : Sheet) (l before : List ℕ) (at : ℕ) (out : List ℕ) (shee
         over-is = rw all;
       }
 
-  pub stops-long : c ≡ TooLong → Lists start l before at out (record { sheet = sheet; left = length (part l used); to = to; over = true })
+  pub stops-long : c ≡ TooLong → Scanned start l before at out (record { sheet = sheet; left = length (part l used); to = to; over = true })
   stops-long e = stops true (long (front TooLong e))
 
-  pub stops-short : c ≡ Short → Lists start l before at out (record { sheet = sheet; left = length (part l used); to = to; over = false })
+  pub stops-short : c ≡ Short → Scanned start l before at out (record { sheet = sheet; left = length (part l used); to = to; over = false })
   stops-short e = stops false (short (front Short e))
 
-  module _ (n : ℕ) (e : c ≡ Whole n) where
-    pub stops-full : (k : ℕ) → k ≡ heardOf sheet → fullSheet ≤ k → Lists start l before at out (record { sheet = sheet; left = length (part l used); to = to; over = true })
-    stops-full k heard h = stops true (full (front (Whole n) e) (le-leb fullSheet (heardOf sheet) (omega arith)))
+  module _ (n : ℕ) (e : c ≡ Record n) where
+    pub stops-full : (k : ℕ) → k ≡ heardOf sheet → fullSheet ≤ k → Scanned start l before at out (record { sheet = sheet; left = length (part l used); to = to; over = true })
+    stops-full k heard h = stops true (full (front (Record n) e) (le-leb fullSheet (heardOf sheet) (omega arith)))
 
     whole : WholeAt (drop used l) n
-    whole = whole-at (drop used l) n (front (Whole n) e)
+    whole = whole-at (drop used l) n (front (Record n) e)
 
     -- the record is there, and its line has room
     pub all-there : recordSize n ≤ length (part l used)
@@ -104,5 +105,5 @@ module _ (start : Sheet) (l before : List ℕ) (at : ℕ) (out : List ℕ) (shee
           behind = omega (arith, taken .short, so .behind);
           text = so .text ++ lineIn sheet n m;
           lines = put-then (so .lines) (taken .line);
-          left = so .left ∙ rw (scan-takes sheet m n (front (Whole n) e) open', taken .sheet-is, drop-drop (recordSize n) used l, append-assoc);
+          left = so .left ∙ rw (scan-takes sheet m n (front (Record n) e) open', taken .sheet-is, drop-drop (recordSize n) used l, append-assoc);
         }

@@ -8,19 +8,19 @@ use native.Mathlib.Nat.{le-refl}
 use native.Mathlib.Omega.{arith}
 use lib.ListN.{length, drop, length-drop}
 use lib.Seq.{drop-drop}
-use Rattle.header.specs.Writing.{payloadLimit}
 use Rattle.sheet.specs.declared.Sheet.{Sheet}
 use Rattle.sheet.specs.Sheets.{fullOf}
-use Rattle.listing.specs.declared.Cut.{Cut}
-use Rattle.listing.specs.declared.Cut.the-variants.{Whole, TooLong, Short}
-use Rattle.listing.specs.Records.{recordSize, cutOf}
+use Rattle.record.specs.declared.Cut.{Cut}
+use Rattle.record.specs.declared.Cut.the-variants.{Record, TooLong, Short}
+use Rattle.record.specs.Records.{recordSize, cutOf}
 use Rattle.listing.specs.Listing.{Scan, stay, after, offeredIn, lineIn, scanAt, scanIn, scanOf}
-use Rattle.listing.proofs.Cuts.{no-length, whole-at, short-at}
+use Rattle.record.proofs.Cuts.{no-length, whole-at, short-at}
+use Rattle.air.specs.Air.{payloadLimit}
 
 -- what is done with the bytes after the first record matters only there
 at-same : (sheet : Sheet) (l : List ℕ) (more other : Sheet → List ℕ → Scan)
     → ((s : Sheet) (n : ℕ) → more s (drop (recordSize n) l) ≡ other s (drop (recordSize n) l)) → (c : Cut) → scanAt sheet l c more ≡ scanAt sheet l c other
-at-same sheet l more other same (Whole n) = ap (λ (r : Scan). cond (fullOf sheet) (stay sheet l true) (after (lineIn sheet n l) r)) (same (offeredIn sheet n l .sheet) n)
+at-same sheet l more other same (Record n) = ap (λ (r : Scan). cond (fullOf sheet) (stay sheet l true) (after (lineIn sheet n l) r)) (same (offeredIn sheet n l .sheet) n)
 at-same sheet l more other same TooLong = refl
 at-same sheet l more other same Short = refl
 
@@ -44,7 +44,7 @@ module _ (sheet : Sheet) (l : List ℕ) where
 
   -- the bytes that are left when no record is taken any more, and whether whatever follows changes that
   pub data Stopped : Bool → Type 0 where
-    full : {n : ℕ} → cutOf l ≡ Whole n → fullOf sheet ≡ true → Stopped true
+    full : {n : ℕ} → cutOf l ≡ Record n → fullOf sheet ≡ true → Stopped true
     long : cutOf l ≡ TooLong → Stopped true
     short : cutOf l ≡ Short → Stopped false
 
@@ -53,13 +53,13 @@ module _ (sheet : Sheet) (l : List ℕ) where
   scan-stops over (long e) = scan-next ∙ rw e
   scan-stops over (short e) = scan-next ∙ rw e
 
-  pub scan-takes : (n : ℕ) → cutOf l ≡ Whole n → fullOf sheet ≡ false → scanOf sheet l ≡ after (lineIn sheet n l) (scanOf (offeredIn sheet n l .sheet) (drop (recordSize n) l))
+  pub scan-takes : (n : ℕ) → cutOf l ≡ Record n → fullOf sheet ≡ false → scanOf sheet l ≡ after (lineIn sheet n l) (scanOf (offeredIn sheet n l .sheet) (drop (recordSize n) l))
   scan-takes n e g = scan-next ∙ rw (e, g)
 
 -- what holds where no record is taken, and of some bytes where it holds of those after their first record, holds of all
 module _ (P : Sheet → List ℕ → Type 0)
     (stops : (sheet : Sheet) (l : List ℕ) (over : Bool) → Stopped sheet l over → P sheet l)
-    (takes : (sheet : Sheet) (l : List ℕ) (n : ℕ) → cutOf l ≡ Whole n → fullOf sheet ≡ false → P (offeredIn sheet n l .sheet) (drop (recordSize n) l) → P sheet l) where
+    (takes : (sheet : Sheet) (l : List ℕ) (n : ℕ) → cutOf l ≡ Record n → fullOf sheet ≡ false → P (offeredIn sheet n l .sheet) (drop (recordSize n) l) → P sheet l) where
   within : (most : ℕ) (sheet : Sheet) (l : List ℕ) → length l ≤ most → P sheet l
   within zero sheet l h = stops sheet l false (short (sym (no-length l (omega arith))))
   within (suc most) sheet l h = by (cutOf l) refl (fullOf sheet) refl (λ s n. within most s (drop (recordSize n) l) (omega (arith, length-drop (recordSize n) l)))
@@ -67,8 +67,8 @@ module _ (P : Sheet → List ℕ → Type 0)
       by : (c : Cut) → cutOf l ≡ c → (b : Bool) → fullOf sheet ≡ b → ((s : Sheet) (n : ℕ) → P s (drop (recordSize n) l)) → P sheet l
       by TooLong e b g more = stops sheet l true (long e)
       by Short e b g more = stops sheet l false (short e)
-      by (Whole n) e true g more = stops sheet l true (full e g)
-      by (Whole n) e false g more = takes sheet l n e g (more (offeredIn sheet n l .sheet) n)
+      by (Record n) e true g more = stops sheet l true (full e g)
+      by (Record n) e false g more = takes sheet l n e g (more (offeredIn sheet n l .sheet) n)
 
   pub by-records : (sheet : Sheet) (l : List ℕ) → P sheet l
   by-records sheet l = within (length l) sheet l (le-refl (length l))

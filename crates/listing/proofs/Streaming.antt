@@ -10,13 +10,13 @@ use lib.Dec.{lit<}
 use lib.ListN.{length, drop, length-append}
 use Rattle.sheet.specs.declared.Sheet.{Sheet}
 use Rattle.sheet.specs.Sheets.{newSheet, fullOf}
-use Rattle.listing.specs.declared.Cut.the-variants.{Whole}
-use Rattle.listing.specs.Records.{recordSize, cutOf}
-use Rattle.listing.specs.Lines.{title}
+use Rattle.record.specs.declared.Cut.the-variants.{Record}
+use Rattle.record.specs.Records.{recordSize, cutOf}
+use Rattle.lines.specs.Lines.{title}
 use Rattle.listing.specs.Listing.{Scan, stay, after, offeredIn, lineIn, scanOf, anyLeft, toldOf, listingOf}
-use Rattle.listing.specs.Pieces.{goesOn, fedOf, writtenOf}
-use Rattle.listing.proofs.Cuts.{no-length, whole-at, long-at}
-use Rattle.listing.proofs.Stays.{long-stays, whole-stays, air-stays, payload-stays, rest-stays}
+use Rattle.listing.specs.Pieces.{goesOn, fedOf, streamedOf}
+use Rattle.record.proofs.Cuts.{no-length, whole-at, long-at}
+use Rattle.record.proofs.Stays.{long-stays, whole-stays, air-stays, payload-stays, rest-stays}
 use Rattle.listing.proofs.Scans.{Stopped, full, long, short, scan-stops, scan-takes, by-records, scan-stopped}
 
 -- what becomes of some bytes and of those that follow, from what became of the former
@@ -40,7 +40,7 @@ scan-append f = by-records (λ sheet l. scanOf sheet (l ++ f) ≡ resumed (scanO
     stops sheet l over (long e) = scan-stops sheet (l ++ f) true (long (long-stays l f e)) ∙ rw (scan-stops sheet l true (long e))
     stops sheet l over (short e) = rw (scan-stops sheet l false (short e))
 
-    takes : (sheet : Sheet) (l : List ℕ) (n : ℕ) → cutOf l ≡ Whole n → fullOf sheet ≡ false
+    takes : (sheet : Sheet) (l : List ℕ) (n : ℕ) → cutOf l ≡ Record n → fullOf sheet ≡ false
         → scanOf (offeredIn sheet n l .sheet) (drop (recordSize n) l ++ f) ≡ resumed (scanOf (offeredIn sheet n l .sheet) (drop (recordSize n) l)) f → scanOf sheet (l ++ f) ≡ resumed (scanOf sheet l) f
     takes sheet l n e g more =
         scan-takes sheet (l ++ f) n (whole-stays l f n e) g
@@ -71,6 +71,6 @@ fed-is (piece ∷ pieces) sheet kept idle =
     ∙ ap toldOf (sym (scan-append (flatten pieces) sheet (kept ++ piece)) ∙ ap (scanOf sheet) (append-assoc kept piece (flatten pieces)))
 
 -- however the input is cut into pieces, what is written is the listing of the whole
-pub whole-listing : (pieces : List (List ℕ)) → writtenOf pieces ≡ listingOf (flatten pieces)
-unfolding writtenOf listingOf
+pub whole-listing : (pieces : List (List ℕ)) → streamedOf pieces ≡ listingOf (flatten pieces)
+unfolding streamedOf listingOf
 whole-listing pieces = ap (λ (text : List ℕ). title ++ text) (fed-is pieces newSheet [] (scan-stops newSheet [] false (short (sym (no-length [] (lit< tt))))))

@@ -11,12 +11,11 @@ use Rattle.word.specs.Repairs.{nearest, repairOf}
 use Rattle.crc.specs.Crc.{crcStep}
 use Rattle.crc.specs.Crc5.{message, nineBytes, crc5Over, countedFlown, crc5Of}
 use Rattle.air.specs.Air.{wordAt, wordsOf, firstNoBit}
-use Rattle.air.specs.Mends.{firstBeyond, repairedOf}
+use Rattle.air.specs.WordRepairs.{firstBeyond, repairedOf}
 use Rattle.header.specs.Fields.{headerOf, bitsOfWords}
-use Rattle.frame.specs.Frames.{frameOf}
-use Rattle.sheet.specs.Sheets.{refuseOf, acceptedOf, refusedOf, offerOf}
-use Rattle.listing.specs.Records.{recordSize, cutOf}
-use Rattle.listing.specs.Lines.{title, acceptedLine, lastLine, cutLine}
+use Rattle.sheet.specs.Sheets.{slotOf, refuseOf, acceptedOf, refusedOf, offerAnswer}
+use Rattle.record.specs.Records.{recordSize, cutOf}
+use Rattle.lines.specs.Lines.{title, lastLine, cutLine}
 use Rattle.listing.specs.Listing.{scanOf, listingOf}
 
 -- "Empty input gives the first line and `heard 0 accepted 0 refused 0`."
@@ -29,12 +28,7 @@ pub lone-byte : listingOf (0 ∷ []) ≡ ascii "pass sheet\ncut\nheard 0 accepte
 unfolding listingOf scanOf cutOf title lastLine cutLine decimalOf acceptedOf refusedOf sumTo
 lone-byte = refl
 
--- "An accepted record reads `3 accepted B radio 2 tx 5 repaired 7 bytes 42`": record 3, of source 3
-pub one-line : acceptedLine 3 3 5 7 42 ≡ ascii "3 accepted B radio 2 tx 5 repaired 7 bytes 42\n"
-unfolding decimalOf
-one-line = refl
-
 -- "Output for one record with length 0 and 210 zeros, whole"
 pub one-record : listingOf (replicate (recordSize 0) 0) ≡ ascii "pass sheet\n0 refused 4 6\nheard 1 accepted 0 refused 1\n"
-unfolding listingOf scanOf title lastLine decimalOf acceptedOf refusedOf sumTo cutOf offerOf frameOf refuseOf tabulate lowest multipleOf distance onesIn nearest repairOf crcStep message nineBytes crc5Over countedFlown crc5Of wordAt wordsOf firstNoBit firstBeyond repairedOf headerOf bitsOfWords flatMap
+unfolding listingOf scanOf title lastLine decimalOf acceptedOf refusedOf sumTo cutOf offerAnswer slotOf refuseOf tabulate lowest multipleOf distance onesIn nearest repairOf crcStep message nineBytes crc5Over countedFlown crc5Of wordAt wordsOf firstNoBit firstBeyond repairedOf headerOf bitsOfWords flatMap
 one-record = refl

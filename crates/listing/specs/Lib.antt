@@ -1,5 +1,3 @@
-pub mod Records
-pub mod Lines
 pub mod Listing
 pub mod Pieces
 pub mod Promises

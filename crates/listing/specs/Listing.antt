@@ -8,10 +8,11 @@ use lib.ListN.{length, drop}
 use Rattle.sheet.specs.declared.Sheet.{Sheet}
 use Rattle.sheet.specs.declared.Offered.{Offered}
 use Rattle.sheet.specs.Sheets.{newSheet, heardOf, fullOf, offerOf}
-use Rattle.listing.specs.declared.Cut.{Cut}
-use Rattle.listing.specs.declared.Cut.the-variants.{Whole, TooLong, Short}
-use Rattle.listing.specs.Records.{airIn, payloadIn, recordSize, cutOf}
-use Rattle.listing.specs.Lines.{title, lineOf, closingOf}
+use Rattle.frame.specs.Frames.{frame}
+use Rattle.record.specs.declared.Cut.{Cut}
+use Rattle.record.specs.declared.Cut.the-variants.{Record, TooLong, Short}
+use Rattle.record.specs.Records.{airIn, payloadIn, recordSize, cutOf}
+use Rattle.lines.specs.Lines.{title, lineOf, closingOf}
 
 -- what became of some bytes
 pub record Scan : Type 0 where
@@ -32,14 +33,14 @@ after text s = record { sheet = s .sheet; text = text ++ s .text; rest = s .rest
 
 -- the record at the front, with n payload bytes, offered to a sheet; its line
 abbrev pub offeredIn : Sheet → ℕ → List ℕ → Offered
-offeredIn sheet n l = offerOf sheet (airIn l) (payloadIn n l)
+offeredIn sheet n l = offerOf sheet (frame (airIn l) (payloadIn n l))
 
 abbrev pub lineIn : Sheet → ℕ → List ℕ → List ℕ
 lineIn sheet n l = lineOf (heardOf sheet) n (offeredIn sheet n l .answer)
 
 -- a whole record is taken, unless the sheet is full; a length over 1,023, and "a further record for a full sheet", stop the listing
 abbrev pub scanAt : Sheet → List ℕ → Cut → (Sheet → List ℕ → Scan) → Scan
-scanAt sheet l (Whole n) next =
+scanAt sheet l (Record n) next =
     cond (fullOf sheet) (stay sheet l true)
     (after (lineIn sheet n l) (next (offeredIn sheet n l .sheet) (drop (recordSize n) l)))
 scanAt sheet l TooLong next = stay sheet l true

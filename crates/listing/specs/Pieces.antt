@@ -5,7 +5,7 @@ use mathlib.Core.List.{List, [], _∷_, _++_}
 use Prim.Native.Nat.{ℕ}
 use Rattle.sheet.specs.declared.Sheet.{Sheet}
 use Rattle.sheet.specs.Sheets.{newSheet}
-use Rattle.listing.specs.Lines.{title, closingOf}
+use Rattle.lines.specs.Lines.{title, closingOf}
 use Rattle.listing.specs.Listing.{Scan, scanOf, anyLeft}
 
 -- the lines of a piece; then "`cut`, then the last line .. and stops", or the pieces that follow
@@ -16,5 +16,5 @@ abbrev pub fedOf : Sheet → List ℕ → List (List ℕ) → List ℕ
 fedOf sheet kept [] = closingOf sheet (anyLeft kept)
 fedOf sheet kept (piece ∷ pieces) = goesOn (scanOf sheet (kept ++ piece)) (λ s k. fedOf s k pieces)
 
-unfoldable pub writtenOf : List (List ℕ) → List ℕ
-writtenOf pieces = title ++ fedOf newSheet [] pieces
+unfoldable pub streamedOf : List (List ℕ) → List ℕ
+streamedOf pieces = title ++ fedOf newSheet [] pieces

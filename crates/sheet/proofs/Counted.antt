@@ -5,7 +5,7 @@ use mathlib.Core.Bool.{Bool, true, false, cond}
 use Prim.Native.Nat.{ℕ, _+_, _≤_, _<_}
 use native.Mathlib.Omega.{arith}
 use lib.Dec.{eqb}
-use lib.ListN.{length, length-set}
+use lib.ListN.{length, set, length-set}
 use lib.Seq.{getD-set-same, getD-set-other}
 use borrow.Author.Tests.{eqb-true, eqb-false}
 use Rattle.header.specs.declared.Answer.{Answer}
@@ -13,11 +13,12 @@ use Rattle.header.specs.declared.Answer.the-variants.{Accepted, Refused}
 use Rattle.sheet.specs.declared.Source.{Source}
 use Rattle.sheet.specs.declared.Sheet.{Sheet}
 use Rattle.sheet.specs.Records.{silent, addOf, nextOf}
-use Rattle.sheet.specs.Sheets.{records, refusalCounts, recordOf, HasCount, slotOf, sourceAt, refusalsAt, acceptOf, refuseOf, countedOf, acceptedOf, refusedOf, heardOf, fullSheet}
+use Rattle.sheet.specs.Sheets.{records, counted, refusalCounts, recordOf, slotOf, sourceAt, refusalsAt, acceptOf, refuseOf, countedOf, acceptedOf, refusedOf, heardOf, fullSheet}
 use Rattle.sheet.specs.Histories.{ownIn, replayFrom, refusedIn}
 use Rattle.sheet.proofs.Growing.{Within, within-more, within-heard, next-frames}
-use Rattle.sheet.proofs.Offering.{Countable, recorded, numbered}
+use Rattle.sheet.proofs.Offering.{HasSlot, Countable, recorded, numbered, refuses}
 use Rattle.base.proofs.OneMore.{sum-part, sum-set}
+use Rattle.base.proofs.Numbers.{place-one}
 
 -- a sheet that has taken n frames
 pub record Grown (n : ℕ) (sheet : Sheet) : Type 0 where
@@ -26,9 +27,13 @@ pub record Grown (n : ℕ) (sheet : Sheet) : Type 0 where
   pub heard-is : heardOf sheet ≡ n
   pub within : (k : ℕ) → Within n (sourceAt sheet k)
 
--- the place of a number among the counts
-slot-lt : (number : ℕ) → HasCount number → slotOf number < refusalCounts
-slot-lt number counted = omega arith
+-- a number that has a count adds one to it, and no other number has the same
+counts-one : (sheet : Sheet) (number : ℕ) → HasSlot number → refuseOf sheet number ≡ record { sources = sheet .sources; refusals = set (sheet .refusals) (slotOf number) (addOf (refusalsAt sheet (slotOf number)) 1) }
+counts-one sheet number has = sym (refuses sheet number (slotOf number) refl has (addOf (refusalsAt sheet (slotOf number)) 1) refl)
+
+slot-one : (m n : ℕ) → HasSlot m → slotOf n ≡ slotOf m → m ≡ n
+unfolding slotOf
+slot-one m n has same = sym (place-one counted m n has same)
 
 module _ (n : ℕ) (sheet : Sheet) (so : Grown n sheet) where
   -- no refusal's count is above the number of frames
@@ -38,8 +43,8 @@ module _ (n : ℕ) (sheet : Sheet) (so : Grown n sheet) where
 
   -- a record hears its own frames
   pub counted-own : (k : ℕ) (a : Answer) → Countable a → sourceAt (countedOf sheet a) k ≡ replayFrom (sourceAt sheet k) (ownIn k a)
-  unfolding acceptOf refuseOf
-  counted-own k (Refused why) known = refl
+  unfolding acceptOf
+  counted-own k (Refused why) (numbered has) = rw (counts-one sheet (why .number) has)
   counted-own k (Accepted h flips) (recorded known few) = by (eqb (recordOf h) k) refl
     where
       next : Source
@@ -57,14 +62,14 @@ module _ (n : ℕ) (sheet : Sheet) (so : Grown n sheet) where
     exact count h = omega arith
 
     -- so a refusal's count grows by one
-    refusal-more : (number : ℕ) → HasCount number → addOf (refusalsAt sheet (slotOf number)) 1 ≡ refusalsAt sheet (slotOf number) + 1
-    refusal-more number counted = exact (refusalsAt sheet (slotOf number)) (refusals-le (slotOf number) (slot-lt number counted))
+    refusal-more : (number : ℕ) → HasSlot number → addOf (refusalsAt sheet (slotOf number)) 1 ≡ refusalsAt sheet (slotOf number) + 1
+    refusal-more number has = exact (refusalsAt sheet (slotOf number)) (refusals-le (slotOf number) has)
 
     -- a refusal's count grows by the answers with its number
-    pub counted-refusals : (number : ℕ) → HasCount number → (a : Answer) → Countable a → refusalsAt (countedOf sheet a) (slotOf number) ≡ refusalsAt sheet (slotOf number) + refusedIn number a
-    unfolding acceptOf refuseOf
+    pub counted-refusals : (number : ℕ) → HasSlot number → (a : Answer) → Countable a → refusalsAt (countedOf sheet a) (slotOf number) ≡ refusalsAt sheet (slotOf number) + refusedIn number a
+    unfolding acceptOf
     counted-refusals number known (Accepted h flips) countable = omega arith
-    counted-refusals number known (Refused why) (numbered counted) = by (eqb (why .number) number) refl
+    counted-refusals number known (Refused why) (numbered has) = by (eqb (why .number) number) refl
       where
         i : ℕ
         i = slotOf (why .number)
@@ -75,21 +80,22 @@ module _ (n : ℕ) (sheet : Sheet) (so : Grown n sheet) where
         by : (b : Bool) → eqb (why .number) number ≡ b → refusalsAt (refuseOf sheet (why .number)) (slotOf number) ≡ refusalsAt sheet (slotOf number) + cond b 1 0
         by true e =
             let own : why .number ≡ number = eqb-true (why .number) number e in
-            rw (← own) (getD-set-same (sheet .refusals) i more 0 (rw (so .refusals-long) (slot-lt (why .number) counted)) ∙ refusal-more (why .number) counted)
+            rw (← own, counts-one sheet (why .number) has) (getD-set-same (sheet .refusals) i more 0 (rw (so .refusals-long) has) ∙ refusal-more (why .number) has)
         by false e =
-            getD-set-other (sheet .refusals) i (slotOf number) more 0 (λ (q : slotOf number ≡ i). eqb-false (why .number) number e (omega arith)) ∙ omega arith
+            rw (counts-one sheet (why .number) has)
+            (getD-set-other (sheet .refusals) i (slotOf number) more 0 (λ (q : slotOf number ≡ i). eqb-false (why .number) number e (slot-one (why .number) number has q)) ∙ omega arith)
 
     -- the sum of all counts grows by one
     pub counted-heard : (a : Answer) → Countable a → heardOf (countedOf sheet a) ≡ n + 1
-    unfolding acceptOf refuseOf acceptedOf refusedOf
+    unfolding acceptOf acceptedOf refusedOf
     counted-heard (Accepted h flips) (recorded known few) =
         let old = sourceAt sheet (recordOf h) in
         let counter = h .«fields» .«fr_cnt_tx» in
         omega (arith, so .heard-is, sum-set (λ s. s .frames) silent (sheet .sources) (recordOf h) (nextOf old counter flips) records known (rw (so .sources-long) known) (next-frames old counter flips ∙ exact (old .frames) (so .within (recordOf h) .frames-le)))
-    counted-heard (Refused why) (numbered counted) =
+    counted-heard (Refused why) (numbered has) =
         let i = slotOf (why .number) in
-        let inside = slot-lt (why .number) counted in
-        omega (arith, so .heard-is, sum-set (λ c. c) 0 (sheet .refusals) i (addOf (refusalsAt sheet i) 1) refusalCounts inside (rw (so .refusals-long) inside) (refusal-more (why .number) counted))
+        rw (counts-one sheet (why .number) has)
+        (omega (arith, so .heard-is, sum-set (λ c. c) 0 (sheet .refusals) i (addOf (refusalsAt sheet i) 1) refusalCounts has (rw (so .refusals-long) has) (refusal-more (why .number) has)))
 
   -- every record stays within its bounds
   counted-within : (a : Answer) → Countable a → (k : ℕ) → Within (n + 1) (sourceAt (countedOf sheet a) k)
@@ -99,21 +105,21 @@ module _ (n : ℕ) (sheet : Sheet) (so : Grown n sheet) where
   counted-within (Refused why) known k = rw (counted-own k (Refused why) known) (within-more n (sourceAt sheet k) (so .within k))
 
   -- no record and no count comes or goes
-  counted-sources-long : (a : Answer) → length (countedOf sheet a .sources) ≡ records
-  unfolding acceptOf refuseOf
-  counted-sources-long (Accepted h flips) = length-set (sheet .sources) (recordOf h) _ ∙ so .sources-long
-  counted-sources-long (Refused why) = so .sources-long
+  counted-sources-long : (a : Answer) → Countable a → length (countedOf sheet a .sources) ≡ records
+  unfolding acceptOf
+  counted-sources-long (Accepted h flips) known = length-set (sheet .sources) (recordOf h) _ ∙ so .sources-long
+  counted-sources-long (Refused why) (numbered has) = rw (counts-one sheet (why .number) has) (so .sources-long)
 
-  counted-refusals-long : (a : Answer) → length (countedOf sheet a .refusals) ≡ refusalCounts
-  unfolding acceptOf refuseOf
-  counted-refusals-long (Accepted h flips) = so .refusals-long
-  counted-refusals-long (Refused why) = length-set (sheet .refusals) (slotOf (why .number)) _ ∙ so .refusals-long
+  counted-refusals-long : (a : Answer) → Countable a → length (countedOf sheet a .refusals) ≡ refusalCounts
+  unfolding acceptOf
+  counted-refusals-long (Accepted h flips) known = so .refusals-long
+  counted-refusals-long (Refused why) (numbered has) = rw (counts-one sheet (why .number) has) (length-set (sheet .refusals) (slotOf (why .number)) _ ∙ so .refusals-long)
 
   -- so the sheet has taken one frame more
   pub counted-grown : n < fullSheet → (a : Answer) → Countable a → Grown (n + 1) (countedOf sheet a)
   counted-grown room a known = record {
-    sources-long = counted-sources-long a;
-    refusals-long = counted-refusals-long a;
+    sources-long = counted-sources-long a known;
+    refusals-long = counted-refusals-long a known;
     heard-is = counted-heard room a known;
     within = counted-within a known;
   }

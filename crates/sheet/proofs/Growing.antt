@@ -12,6 +12,7 @@ use borrow.Author.Tests.{eq-eqb, ne-eqb}
 use Rattle.sheet.specs.declared.Source.{Source}
 use Rattle.sheet.specs.Records.{counters, missedOf, addOf, tallyOf, nextOf}
 use Rattle.sheet.specs.Histories.{Own, replayFrom}
+use Rattle.air.specs.Flips.{mostFlips}
 
 -- two wrapping subtractions of bytes, reduced mod 16
 pub missed-wraps : (last new apart between : ℕ) → Fits w8 last → Fits w8 new → Fits w8 apart → Fits w8 between → (apart + last) % 256 ≡ new → (between + 1) % 256 ≡ apart → between % counters ≡ missedOf last new
@@ -52,10 +53,6 @@ next-cases P s new flips each = by (s .heard) (eqb new (s .last))
 pub next-frames : (s : Source) (new flips : ℕ) → nextOf s new flips .frames ≡ addOf (s .frames) 1
 unfolding tallyOf
 next-frames s new flips = next-cases (λ r. r .frames ≡ addOf (s .frames) 1) s new flips (λ repeats missed a b. refl)
-
--- the most bits that are repaired in one frame: three in each of fourteen words
-abbrev pub mostFlips : ℕ
-mostFlips = 42
 
 -- the counts of a record that heard at most n frames
 pub record Within (n : ℕ) (s : Source) : Type 0 where

@@ -8,15 +8,15 @@ use lib.ListN.{length}
 use lib.Seq.{take-append-le}
 use Rattle.base.specs.Checks.{refusal}
 use Rattle.header.specs.declared.Answer.the-variants.{Refused}
-use Rattle.frame.specs.Frames.{frameOf}
+use Rattle.frame.specs.Frames.{frameOf, Frame}
 use Rattle.sheet.specs.declared.Source.{Source}
 use Rattle.sheet.specs.declared.Sheet.{Sheet}
-use Rattle.sheet.specs.Sheets.{HasCount, slotOf, newSheet, sourceAt, refusalsAt, acceptedOf, refusedOf, fullSheet, takenOf, offerOf}
-use Rattle.sheet.specs.Histories.{Frame, sheetOf, takenFrom, ownOf, replayFrom, replayOf, refusedWith, Unfilled}
-use Rattle.sheet.proofs.Refusals.{room-takes, full-refuses}
+use Rattle.sheet.specs.Sheets.{slotOf, newSheet, sourceAt, refusalsAt, acceptedOf, refusedOf, fullSheet, takenOf, offerOf}
+use Rattle.sheet.specs.Histories.{sheetOf, takenFrom, ownOf, replayFrom, replayOf, refusedWith, Unfilled}
 use Rattle.sheet.proofs.Counted.{refusals-le}
 use Rattle.sheet.proofs.Running.{countAll, new-silent, new-refusals, new-grown, history-taken, history-few, history-grown}
 use Rattle.sheet.proofs.Replay.{all-own, all-refused}
+use Rattle.sheet.proofs.Offering.{HasSlot, full-refuses, room-takes}
 
 module _ (history : List Frame) where
   -- "Frames offered, counted from the history, equal accepted over all sources plus refused over all numbers."
@@ -31,7 +31,7 @@ module _ (history : List Frame) where
       ∙ ap (λ (s : Source). replayFrom s (ownOf k (takenFrom history))) (new-silent k)
 
   -- a refusal's count is the number of frames refused so
-  pub own-refusals : (number : ℕ) → HasCount number → refusalsAt (sheetOf history) (slotOf number) ≡ refusedWith number (takenFrom history)
+  pub own-refusals : (number : ℕ) → HasSlot number → refusalsAt (sheetOf history) (slotOf number) ≡ refusedWith number (takenFrom history)
   own-refusals number known =
       ap (λ (t : Sheet). refusalsAt t (slotOf number)) (history-taken history)
       ∙ all-refused number known (takenFrom history) 0 newSheet new-grown (history-few history)
@@ -50,13 +50,13 @@ module _ (history : List Frame) where
       }
 
   -- "After 65,535 offered frames the sheet is full": before that the sheet takes a frame,
-  pub taken-before : length history < fullSheet → (air payload : List ℕ) → offerOf (sheetOf history) air payload ≡ takenOf (sheetOf history) (frameOf air payload)
-  taken-before few = room-takes (sheetOf history) (omega (arith, history-grown history .heard-is))
+  pub taken-before : length history < fullSheet → (f : Frame) → offerOf (sheetOf history) f ≡ takenOf (sheetOf history) (frameOf f)
+  taken-before few f = room-takes (sheetOf history) f (omega (arith, history-grown history .heard-is))
 
   module _ (many : fullSheet ≤ length history) where
     -- and from then on every frame is refused with 17
-    pub refused-after : (air payload : List ℕ) → offerOf (sheetOf history) air payload ≡ record { answer = Refused (refusal 17 fullSheet); sheet = sheetOf history }
-    refused-after = full-refuses (sheetOf history) (omega (arith, history-grown history .heard-is))
+    pub refused-after : (f : Frame) → offerOf (sheetOf history) f ≡ record { answer = Refused (refusal 17 fullSheet); sheet = sheetOf history }
+    refused-after f = full-refuses (sheetOf history) f (omega (arith, history-grown history .heard-is))
 
     -- and the sheet is the same after whatever follows
     pub same-after : (later : List Frame) → sheetOf (history ++ later) ≡ sheetOf history

@@ -1,68 +1,123 @@
 -- A frame offered to a sheet: what changes there, the place that its answer has, refusal 17, and what is left to the frame.
 -- Assumes nothing.
-use mathlib.Core.Path.{_≡_, refl, sym, _∙_}
+use mathlib.Core.Path.{_≡_, refl, sym, ap, _∙_}
 use mathlib.Core.Bool.{Bool, true, false}
 use mathlib.Core.List.{List}
-use Prim.Native.Nat.{ℕ, _≤_, _<_}
+use Prim.Native.Nat.{ℕ, _+_, _≤_, _<_}
 use native.Mathlib.Omega.{arith}
-use lib.Dec.{leb}
-use lib.ListN.{set}
+use lib.Dec.{leb, eqb}
+use lib.ListN.{getD, set}
+use borrow.Author.Tests.{lt-ltb, le-ltb, le-leb, lt-leb, leb-true, leb-false, eq-eqb, ne-eqb}
 use Rattle.base.specs.declared.Refusal.{Refusal}
 use Rattle.base.specs.Checks.{refusal}
+use Rattle.base.specs.Lists.{lowest}
+use Rattle.base.proofs.Lowest.{Passed, starts, goes-on, stops, ends}
+use Rattle.base.proofs.Numbers.{place-lt}
+use Rattle.air.specs.Flips.{mostFlips}
 use Rattle.header.specs.declared.Header.{Header}
 use Rattle.header.specs.declared.Answer.{Answer}
 use Rattle.header.specs.declared.Answer.the-variants.{Accepted, Refused}
-use Rattle.frame.specs.Frames.{frameOf}
+use Rattle.frame.specs.Frames.{Frame, frame, frameOf}
 use Rattle.frame.proofs.Bounds.{frame-source, frame-number, frame-flips}
+use Rattle.frame.proofs.Rules.{frame-first}
 use Rattle.sheet.specs.declared.Source.{Source}
 use Rattle.sheet.specs.declared.Sheet.{Sheet}
 use Rattle.sheet.specs.Records.{addOf, nextOf}
-use Rattle.sheet.specs.Sheets.{records, recordOf, HasCount, slotOf, sourceAt, refusalsAt, acceptOf, refuseOf, countedOf, heardOf, fullSheet, fullOf, offerOf}
-use Rattle.sheet.proofs.Growing.{mostFlips}
+use Rattle.sheet.specs.Sheets.{records, recordOf, counted, refusalCounts, slotOf, sourceAt, refusalsAt, acceptOf, refuseOf, countedOf, heardOf, fullSheet, fullOf, offerAnswer, takenOf, offerOf}
 
 -- the sheet with one record changed
 pub accepts : (sheet : Sheet) (h : Header) (flips : ℕ) (changed : Source) → changed ≡ nextOf (sourceAt sheet (recordOf h)) (h .«fields» .«fr_cnt_tx») flips → record { sources = set (sheet .sources) (recordOf h) changed; refusals = sheet .refusals } ≡ acceptOf sheet h flips
 unfolding acceptOf
 accepts sheet h flips changed is = rw is
 
--- the sheet with one count changed
-pub refuses : (sheet : Sheet) (number changed : ℕ) → changed ≡ addOf (refusalsAt sheet (slotOf number)) 1 → record { sources = sheet .sources; refusals = set (sheet .refusals) (slotOf number) changed } ≡ refuseOf sheet number
-unfolding refuseOf
-refuses sheet number changed is = rw is
+-- THE SLOT OF A NUMBER: the numbers before k are others
+module _ (number : ℕ) where
+  abbrev isNumber : ℕ → Bool
+  isNumber k = eqb number (getD counted k 0)
+
+  abbrev pub Looked : ℕ → Type 0
+  Looked k = Passed refusalCounts isNumber k
+
+  pub look-starts : Looked 0
+  look-starts = starts refusalCounts isNumber
+
+  module _ (k : ℕ) (so : Looked k) where
+    pub look-goes-on : k < refusalCounts → (number ≡ getD counted k 0 → ⊥) → Looked (k + 1)
+    look-goes-on h other = goes-on refusalCounts isNumber k so h (ne-eqb number (getD counted k 0) other)
+
+    pub look-stops : k < refusalCounts → number ≡ getD counted k 0 → k ≡ slotOf number
+    unfolding slotOf
+    look-stops h same = stops refusalCounts isNumber k so h (eq-eqb number (getD counted k 0) same)
+
+    pub look-ends : refusalCounts ≤ k → k ≡ slotOf number
+    unfolding slotOf
+    look-ends h = ends refusalCounts isNumber k so h
+
+-- the sheet with one count changed, or unchanged
+module _ (sheet : Sheet) (number k : ℕ) (found : k ≡ slotOf number) where
+  pub refuses-not : refusalCounts ≤ k → sheet ≡ refuseOf sheet number
+  unfolding refuseOf
+  refuses-not h = rw (← found, le-ltb k refusalCounts h)
+
+  pub refuses : k < refusalCounts → (changed : ℕ) → changed ≡ addOf (refusalsAt sheet k) 1 → record { sources = sheet .sources; refusals = set (sheet .refusals) k changed } ≡ refuseOf sheet number
+  unfolding refuseOf
+  refuses h changed is = rw (← found, lt-ltb k refusalCounts h, is)
 
 -- the test of the sum
 pub fills : (sheet : Sheet) (sum : ℕ) → sum ≡ heardOf sheet → leb fullSheet sum ≡ fullOf sheet
 fills sheet sum is = rw is
 
-module _ (air payload : List ℕ) (a : Answer) (is : a ≡ frameOf air payload) where
-  -- an accepted frame has a record
-  pub has-record : (h : Header) (flips : ℕ) → a ≡ Accepted h flips → recordOf h < records
-  has-record h flips e = omega (arith, frame-source air payload h flips (sym is ∙ e))
-
-  -- a refused one has a count
-  pub has-count : (why : Refusal) → a ≡ Refused why → HasCount (why .number)
-  has-count why e = let known = frame-number air payload why (sym is ∙ e) in record { least = known .0; most = known .1 }
+-- a number that has a count
+abbrev pub HasSlot : ℕ → Type 0
+HasSlot number = slotOf number < refusalCounts
 
 -- the answers that have their place on a sheet
 pub data Countable : Answer → Type 0 where
   recorded : {h : Header} {flips : ℕ} → recordOf h < records → flips ≤ mostFlips → Countable (Accepted h flips)
-  numbered : {why : Refusal} → HasCount (why .number) → Countable (Refused why)
+  numbered : {why : Refusal} → HasSlot (why .number) → Countable (Refused why)
 
 -- every answer to a frame has
-pub frame-countable : (air payload : List ℕ) → Countable (frameOf air payload)
-frame-countable air payload = by (frameOf air payload) refl
+pub frame-countable : (f : Frame) → Countable (frameOf f)
+unfolding slotOf
+frame-countable f = by (frameOf f) refl
   where
-    by : (a : Answer) → a ≡ frameOf air payload → Countable a
-    by (Accepted h flips) is = recorded (has-record air payload (Accepted h flips) is h flips refl) (frame-flips air payload h flips (sym is))
-    by (Refused why) is = numbered (has-count air payload (Refused why) is why refl)
+    by : (a : Answer) → frameOf f ≡ a → Countable a
+    by (Accepted h flips) is = recorded {h = h} (omega (arith, frame-source f h flips is)) (frame-flips f h flips is)
+    by (Refused why) is = numbered (place-lt counted (why .number) (frame-number f why is))
 
-module _ (sheet : Sheet) (full : Bool) (tested : full ≡ fullOf sheet) (air payload : List ℕ) where
-  -- a full sheet
-  pub gives-17 : full ≡ true → record { answer = Refused (refusal 17 fullSheet); sheet = sheet } ≡ offerOf sheet air payload
-  unfolding offerOf
-  gives-17 taken = rw (← tested, taken)
+-- a full sheet gives 17, and any other the frame's answer
+module _ (sheet : Sheet) (f : Frame) where
+  answers-17 : fullSheet ≤ heardOf sheet → offerAnswer sheet f ≡ Refused (refusal 17 fullSheet)
+  unfolding offerAnswer
+  answers-17 many = rw (le-leb fullSheet (heardOf sheet) many)
 
-  -- any other: r is the frame's answer, and a what it was found to be
-  pub takes : full ≡ false → (r a : Answer) → r ≡ frameOf air payload → r ≡ a → (after : Sheet) → after ≡ countedOf sheet a → record { answer = a; sheet = after } ≡ offerOf sheet air payload
-  unfolding offerOf
-  takes left r a is e after counted = rw (← tested, left, ← is, e, counted)
+  pub answers-frame : heardOf sheet < fullSheet → offerAnswer sheet f ≡ frameOf f
+  unfolding offerAnswer
+  answers-frame room = rw (lt-leb fullSheet (heardOf sheet) room) (sym (frame-first f))
+
+-- 17 has no count, so the sheet stays as it is
+stays-17 : (sheet : Sheet) → refuseOf sheet 17 ≡ sheet
+unfolding refuseOf slotOf lowest
+stays-17 sheet = refl
+
+pub full-refuses : (sheet : Sheet) (f : Frame) → fullSheet ≤ heardOf sheet → offerOf sheet f ≡ record { answer = Refused (refusal 17 fullSheet); sheet = sheet }
+full-refuses sheet f many = rw (answers-17 sheet f many, stays-17 sheet)
+
+-- a sheet with room takes the frame
+pub room-takes : (sheet : Sheet) (f : Frame) → heardOf sheet < fullSheet → offerOf sheet f ≡ takenOf sheet (frameOf f)
+room-takes sheet f room = ap (takenOf sheet) (answers-frame sheet f room)
+
+-- THE SAME, as the sheet finds it: r is the frame's answer, and a what it was found to be
+module _ (sheet : Sheet) (air payload : List ℕ) where
+  pub gives-17 : (full : Bool) → full ≡ fullOf sheet → full ≡ true → record { answer = Refused (refusal 17 fullSheet); sheet = sheet } ≡ offerOf sheet (frame air payload)
+  gives-17 full tested taken = sym (full-refuses sheet (frame air payload) (leb-true fullSheet (heardOf sheet) (sym tested ∙ taken)))
+
+  pub has-record : (r : Answer) → r ≡ frameOf (frame air payload) → (h : Header) (flips : ℕ) → r ≡ Accepted h flips → recordOf h < records
+  has-record r is h flips e = omega (arith, frame-source (frame air payload) h flips (sym is ∙ e))
+
+  pub takes : heardOf sheet < fullSheet → (r a : Answer) → r ≡ frameOf (frame air payload) → r ≡ a → (after : Sheet) → after ≡ countedOf sheet a → record { answer = a; sheet = after } ≡ offerOf sheet (frame air payload)
+  takes room r a is e after counts = rw counts (sym (room-takes sheet (frame air payload) room ∙ ap (takenOf sheet) (sym is ∙ e)))
+
+-- a sheet that is not found full has room
+pub has-room : (sheet : Sheet) (full : Bool) → full ≡ fullOf sheet → full ≡ false → heardOf sheet < fullSheet
+has-room sheet full tested left = leb-false fullSheet (heardOf sheet) (sym tested ∙ left)

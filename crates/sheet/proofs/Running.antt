@@ -11,12 +11,12 @@ use Rattle.sheet.specs.declared.Sheet.{Sheet}
 use Rattle.sheet.specs.declared.Offered.{Offered}
 use Rattle.sheet.specs.Records.{silent}
 use Rattle.sheet.specs.Sheets.{records, refusalCounts, newSheet, sourceAt, refusalsAt, countedOf, acceptedOf, refusedOf, heardOf, fullSheet}
-use Rattle.sheet.specs.Histories.{Frame, answerOf, runOf, sheetOf, takenFrom}
-use Rattle.sheet.proofs.Offering.{frame-countable}
-use Rattle.sheet.proofs.Refusals.{room-takes, full-refuses}
+use Rattle.sheet.specs.Histories.{runOf, sheetOf, takenFrom}
+use Rattle.sheet.proofs.Offering.{frame-countable, full-refuses, room-takes}
 use Rattle.sheet.proofs.Counted.{Grown, counted-grown}
 use Rattle.base.proofs.OneMore.{sum-zeros}
 use Rattle.base.proofs.Tabulate.{read-replicated}
+use Rattle.frame.specs.Frames.{Frame, frameOf}
 
 -- a new sheet has heard no source and counted no refusal
 pub new-silent : (k : ℕ) → sourceAt newSheet k ≡ silent
@@ -40,24 +40,24 @@ new-grown = record {
 -- a sheet after frames that it takes
 abbrev pub countAll : Sheet → List Frame → Sheet
 countAll sheet [] = sheet
-countAll sheet (f ∷ fs) = countAll (countedOf sheet (answerOf f)) fs
+countAll sheet (f ∷ fs) = countAll (countedOf sheet (frameOf f)) fs
 
 -- it has taken one frame more after each
-pub one-grown : (n : ℕ) (sheet : Sheet) → Grown n sheet → n < fullSheet → (f : Frame) → Grown (n + 1) (countedOf sheet (answerOf f))
-one-grown n sheet so room f = counted-grown n sheet so room (answerOf f) (frame-countable (f .air) (f .payload))
+pub one-grown : (n : ℕ) (sheet : Sheet) → Grown n sheet → n < fullSheet → (f : Frame) → Grown (n + 1) (countedOf sheet (frameOf f))
+one-grown n sheet so room f = counted-grown n sheet so room (frameOf f) (frame-countable f)
 
 -- and as many as there are after all
 all-grown : (fs : List Frame) (n : ℕ) (sheet : Sheet) → Grown n sheet → n + length fs ≤ fullSheet → Grown (n + length fs) (countAll sheet fs)
 all-grown [] n sheet so room = let same : n + 0 ≡ n = omega arith in rw same so
 all-grown (f ∷ fs) n sheet so room =
     let shift : n + suc (length fs) ≡ n + 1 + length fs = omega arith in
-    rw shift (all-grown fs (n + 1) (countedOf sheet (answerOf f)) (one-grown n sheet so (omega arith) f) (omega arith))
+    rw shift (all-grown fs (n + 1) (countedOf sheet (frameOf f)) (one-grown n sheet so (omega arith) f) (omega arith))
 
 -- a full sheet stays as it is
 pub full-stays : (sheet : Sheet) → fullSheet ≤ heardOf sheet → (fs : List Frame) → runOf sheet fs ≡ sheet
 full-stays sheet many [] = refl
 full-stays sheet many (f ∷ fs) =
-    ap (λ (o : Offered). runOf (o .sheet) fs) (full-refuses sheet many (f .air) (f .payload)) ∙ full-stays sheet many fs
+    ap (λ (o : Offered). runOf (o .sheet) fs) (full-refuses sheet f many) ∙ full-stays sheet many fs
 
 -- so a sheet with room for m frames takes m frames
 run-takes : (fs : List Frame) (m n : ℕ) (sheet : Sheet) → n + m ≡ fullSheet → Grown n sheet → runOf sheet fs ≡ countAll sheet (take m fs)
@@ -65,8 +65,8 @@ run-takes [] zero n sheet e so = refl
 run-takes [] (suc m) n sheet e so = refl
 run-takes (f ∷ fs) zero n sheet e so = full-stays sheet (omega (arith, so .heard-is)) (f ∷ fs)
 run-takes (f ∷ fs) (suc m) n sheet e so =
-    ap (λ (o : Offered). runOf (o .sheet) fs) (room-takes sheet (omega (arith, so .heard-is)) (f .air) (f .payload))
-    ∙ run-takes fs m (n + 1) (countedOf sheet (answerOf f)) (omega arith) (one-grown n sheet so (omega arith) f)
+    ap (λ (o : Offered). runOf (o .sheet) fs) (room-takes sheet f (omega (arith, so .heard-is)))
+    ∙ run-takes fs m (n + 1) (countedOf sheet (frameOf f)) (omega arith) (one-grown n sheet so (omega arith) f)
 
 -- and a new sheet the first 65,535
 pub history-taken : (history : List Frame) → sheetOf history ≡ countAll newSheet (takenFrom history)

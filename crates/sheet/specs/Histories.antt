@@ -7,24 +7,16 @@ use lib.Dec.{eqb}
 use lib.ListN.{take}
 use Rattle.header.specs.declared.Answer.{Answer}
 use Rattle.header.specs.declared.Answer.the-variants.{Accepted, Refused}
-use Rattle.frame.specs.Frames.{frameOf}
+use Rattle.frame.specs.Frames.{Frame, frameOf}
 use Rattle.sheet.specs.declared.Source.{Source}
 use Rattle.sheet.specs.declared.Sheet.{Sheet}
 use Rattle.sheet.specs.Records.{silent, countLimit, nextOf}
 use Rattle.sheet.specs.Sheets.{refusalCounts, recordOf, newSheet, sourceAt, refusalsAt, fullSheet, offerOf}
 
--- a frame as it is offered: its header bytes and its payload bytes
-pub record Frame : Type 0 where
-  pub air : List ℕ
-  pub payload : List ℕ
-
-abbrev pub answerOf : Frame → Answer
-answerOf f = frameOf (f .air) (f .payload)
-
 -- a sheet after some frames, and the sheet grown from a new one
 abbrev pub runOf : Sheet → List Frame → Sheet
 runOf sheet [] = sheet
-runOf sheet (f ∷ fs) = runOf (offerOf sheet (f .air) (f .payload) .sheet) fs
+runOf sheet (f ∷ fs) = runOf (offerOf sheet f .sheet) fs
 
 abbrev pub sheetOf : List Frame → Sheet
 sheetOf history = runOf newSheet history
@@ -45,7 +37,7 @@ ownIn k (Refused why) = []
 
 abbrev pub ownOf : ℕ → List Frame → List Own
 ownOf k [] = []
-ownOf k (f ∷ fs) = ownIn k (answerOf f) ++ ownOf k fs
+ownOf k (f ∷ fs) = ownIn k (frameOf f) ++ ownOf k fs
 
 -- a record after such frames, and the record that they make
 abbrev pub replayFrom : Source → List Own → Source
@@ -61,7 +53,7 @@ refusedIn number (Refused why) = cond (eqb (why .number) number) 1 0
 
 abbrev pub refusedWith : ℕ → List Frame → ℕ
 refusedWith number [] = 0
-refusedWith number (f ∷ fs) = refusedIn number (answerOf f) + refusedWith number fs
+refusedWith number (f ∷ fs) = refusedIn number (frameOf f) + refusedWith number fs
 
 -- no count of a sheet has reached 4,294,967,295
 pub record Unfilled (sheet : Sheet) : Type 0 where

@@ -1,38 +1,40 @@
 -- The pass sheet, and a frame offered to it.
 -- Assumes nothing.
-use mathlib.Core.Bool.{Bool}
+use mathlib.Core.Bool.{Bool, cond}
 use mathlib.Core.List.{List, [], _∷_}
-use Prim.Native.Nat.{ℕ, _+_, _-_, _≤_}
-use lib.Dec.{leb}
-use lib.ListN.{getD, set, replicate}
+use Prim.Native.Nat.{ℕ, suc, _+_}
+use lib.Dec.{leb, ltb}
+use lib.ListN.{length, getD, set, replicate}
 use Rattle.base.specs.Checks.{Check, check, first, refusal}
-use Rattle.base.specs.Lists.{sumTo}
+use Rattle.base.specs.Lists.{sumTo, placeIn}
 use Rattle.header.specs.declared.Header.{Header}
 use Rattle.header.specs.declared.Answer.{Answer}
 use Rattle.header.specs.declared.Answer.the-variants.{Accepted, Refused}
-use Rattle.frame.specs.Frames.{frameOf}
+use Rattle.header.specs.Fields.{lastSource}
+use Rattle.header.specs.Reading.{repairedAnswer}
+use Rattle.frame.specs.Frames.{Frame, frameNumbers, frameChecks}
 use Rattle.sheet.specs.declared.Source.{Source}
 use Rattle.sheet.specs.declared.Sheet.{Sheet}
 use Rattle.sheet.specs.declared.Offered.{Offered}
 use Rattle.sheet.specs.Records.{silent, addOf, nextOf}
 
--- "Eight records, one per SrcId"
+-- "Eight records, one per SrcId": as many as there are sources that are not refused
 abbrev pub records : ℕ
-records = 8
+records = suc lastSource
 
 abbrev pub recordOf : Header → ℕ
 recordOf h = h .«fields» .«src_id»
 
 -- "and a count for each of the refusals 1 to 8", in this order
+abbrev pub counted : List ℕ
+counted = frameNumbers
+
 abbrev pub refusalCounts : ℕ
-refusalCounts = 8
+refusalCounts = length counted
 
-pub record HasCount (number : ℕ) : Type 0 where
-  pub least : 1 ≤ number
-  pub most : number ≤ refusalCounts
-
-abbrev pub slotOf : ℕ → ℕ
-slotOf number = number - 1
+-- the place of a number's count; past the last where it is not counted
+unfoldable pub slotOf : ℕ → ℕ
+slotOf number = placeIn counted number
 
 -- "A new sheet is the only reset."
 abbrev pub newSheet : Sheet
@@ -52,12 +54,15 @@ acceptOf sheet h flips = record {
   refusals = sheet .refusals;
 }
 
--- "A frame refused with 1 to 8 adds one to that refusal's count and touches no frame record."
+-- "A frame refused with 1 to 8 adds one to that refusal's count and touches no frame record." Any other number changes nothing.
 unfoldable pub refuseOf : Sheet → ℕ → Sheet
-refuseOf sheet number = record {
-  sources = sheet .sources;
-  refusals = set (sheet .refusals) (slotOf number) (addOf (refusalsAt sheet (slotOf number)) 1);
-}
+refuseOf sheet number =
+    cond (ltb (slotOf number) refusalCounts)
+    (record {
+      sources = sheet .sources;
+      refusals = set (sheet .refusals) (slotOf number) (addOf (refusalsAt sheet (slotOf number)) 1);
+    })
+    sheet
 
 abbrev pub countedOf : Sheet → Answer → Sheet
 countedOf sheet (Accepted h flips) = acceptOf sheet h flips
@@ -80,17 +85,22 @@ fullSheet = 65535
 abbrev pub fullOf : Sheet → Bool
 fullOf sheet = leb fullSheet (heardOf sheet)
 
--- what a sheet refuses by itself, unchanged
-abbrev pub sheetChecks : Sheet → List (Check Offered)
-sheetChecks sheet =
-    -- "17 sheet full, checked before anything else, sheet unchanged (place 65,535)"
-    check (fullOf sheet) (record { answer = Refused (refusal 17 fullSheet); sheet = sheet })
-    ∷ []
+-- THE PAPER'S TABLE, with the row that a sheet puts before the frame's
+-- 17, "sheet full, checked before anything else, sheet unchanged (place 65,535)"
+abbrev pub sheetFull : Sheet → Check Answer
+sheetFull sheet = check (fullOf sheet) (Refused (refusal 17 fullSheet))
 
--- a frame that the sheet takes has its own answer, and is counted
+abbrev pub offerChecks : Sheet → Frame → List (Check Answer)
+offerChecks sheet f = sheetFull sheet ∷ frameChecks f
+
+-- the answer to a frame that is offered
+unfoldable pub offerAnswer : Sheet → Frame → Answer
+offerAnswer sheet f = first (repairedAnswer (f .head)) (offerChecks sheet f)
+
+-- an answer, and the sheet that has counted it
 abbrev pub takenOf : Sheet → Answer → Offered
 takenOf sheet answer = record { answer = answer; sheet = countedOf sheet answer }
 
 -- a frame offered: the answer, and the sheet after it
-unfoldable pub offerOf : Sheet → List ℕ → List ℕ → Offered
-offerOf sheet air payload = first (takenOf sheet (frameOf air payload)) (sheetChecks sheet)
+abbrev pub offerOf : Sheet → Frame → Offered
+offerOf sheet f = takenOf sheet (offerAnswer sheet f)

@@ -1,13 +1,43 @@
-// The pass sheet: a record for each source, and a count for each of the refusals 1 to 8. A new sheet is the only reset.
+// The pass sheet: a record for each source, and a count for each refusal of a frame. A new sheet is the only reset.
+use base::BEYOND_REPAIR;
+use base::CRC5_DIFFERS;
+use base::CRC13_DIFFERS;
+use base::NO_BIT;
+use base::NOT_210_LONG;
+use base::OTHER_LENGTH;
 use base::Refusal;
 use base::SHEET_FULL;
+use base::UNKNOWN_CODING;
+use base::UNKNOWN_SOURCE;
 use header::Answer;
 use header::Header;
+use word::table::TABLE_ROWS;
 ghost use mathlib.Core.Path.{_≡_};
 ghost use Prim.Native.Nat.{_*_, _<_, _≤_};
 ghost use Rattle.word.specs.Repairs.{syndromes};
 ghost use Rattle.sheet.specs.Records.{countLimit, addOf, missedOf, tallyOf, nextOf};
-ghost use Rattle.sheet.specs.Sheets.{records, recordOf, refusalCounts, HasCount, newSheet, acceptOf, refuseOf, acceptedOf, refusedOf, heardOf, fullOf, offerOf};
+ghost use Rattle.frame.specs.Frames.{frame};
+ghost use Rattle.sheet.specs.Sheets.{records, recordOf, refusalCounts, slotOf, newSheet, acceptOf, refuseOf, acceptedOf, refusedOf, heardOf, fullSheet, fullOf, offerOf};
+
+// The records: one for each SrcId that is not refused.
+pub const RECORDS: usize = header::LAST_SOURCE as usize + 1;
+
+// The refusals that are counted, in the order of their counts.
+pub const REFUSAL_COUNTS: usize = 8;
+
+const COUNTED: [u8; REFUSAL_COUNTS] = [
+    NOT_210_LONG,
+    NO_BIT,
+    BEYOND_REPAIR,
+    CRC5_DIFFERS,
+    UNKNOWN_SOURCE,
+    UNKNOWN_CODING,
+    OTHER_LENGTH,
+    CRC13_DIFFERS,
+];
+
+// Frame counters run from 0 to 15.
+const COUNTERS: u8 = 16;
 
 // What is counted of one source. Where it was never heard, `last` says nothing.
 pub struct Source {
@@ -19,10 +49,10 @@ pub struct Source {
     pub last: u8,
 }
 
-// A record for each SrcId; and in `refusals[k]` how many frames were refused with k + 1.
+// A record for each SrcId; and in `refusals[k]` how many frames were refused with COUNTED[k].
 pub struct Sheet {
-    pub sources: [Source; 8],
-    pub refusals: [u32; 8],
+    pub sources: [Source; RECORDS],
+    pub refusals: [u32; REFUSAL_COUNTS],
 }
 
 // The answer to an offered frame, and the sheet after it.
@@ -50,8 +80,8 @@ pub fn new_sheet() -> Sheet
         last: 0,
     };
     Sheet {
-        sources: [silent; 8],
-        refusals: [0; 8],
+        sources: [silent; RECORDS],
+        refusals: [0; REFUSAL_COUNTS],
     }
 }
 
@@ -71,7 +101,7 @@ fn missed(last: u8, new: u8) -> u32
 {
     let apart = std::num::wrapping_sub_u8(new, last);
     let between = std::num::wrapping_sub_u8(apart, 1);
-    (between % 16) as u32
+    (between % COUNTERS) as u32
 }
 
 // A source's record after a frame that adds so much to its repeats and to its missed frames.
@@ -115,13 +145,29 @@ fn accept(sheet: Sheet, header: Header, flips: u32) -> Sheet
     after
 }
 
-// The sheet after a refused frame.
+// The place of a number's count, or REFUSAL_COUNTS.
+fn slot(number: u8) -> usize
+    ensures { λ r. ⌜ r ≡ slotOf number ⌝ }
+{
+    let mut k = 0;
+    while k < REFUSAL_COUNTS {
+        if number == COUNTED[k] {
+            return k;
+        }
+        k += 1;
+    }
+    k
+}
+
+// The sheet after a frame that was refused with a number. Where the number is not counted, it stays as it is.
 fn refuse(sheet: Sheet, number: u8) -> Sheet
-    requires { ⌜ HasCount number ⌝ }
     ensures { λ r. ⌜ r ≡ refuseOf sheet number ⌝ }
 {
+    let k = slot(number);
+    if REFUSAL_COUNTS <= k {
+        return sheet;
+    }
     let mut after = sheet;
-    let k = (number - 1) as usize;
     let changed = add(after.refusals[k], 1);
     after.refusals[k] = changed;
     after
@@ -134,7 +180,7 @@ pub fn accepted(sheet: Sheet) -> u64
 {
     let mut sum: u64 = 0;
     let mut k = 0;
-    while k < 8 {
+    while k < RECORDS {
         let source = sheet.sources[k];
         sum += source.frames as u64;
         k += 1;
@@ -149,7 +195,7 @@ pub fn refused(sheet: Sheet) -> u64
 {
     let mut sum: u64 = 0;
     let mut k = 0;
-    while k < 8 {
+    while k < REFUSAL_COUNTS {
         sum += sheet.refusals[k] as u64;
         k += 1;
     }
@@ -170,25 +216,16 @@ pub fn full(sheet: Sheet) -> bool
     FULL <= heard(sheet)
 }
 
-// A frame offered to a sheet, by a lent copy of the syndrome table: what a caller with many frames copies once.
-pub fn offer_in(table: &[u16; 1024], sheet: Sheet, header: &[u8], payload: &[u8]) -> Offered
+// A frame offered to a sheet that is not full, by a lent copy of the syndrome table: the frame's own answer, counted.
+pub fn take_in(table: &[u16; TABLE_ROWS], sheet: Sheet, air: &[u8], payload: &[u8]) -> Offered
     requires { ⌜ now table ≡ syndromes ⌝ }
-    ensures { λ r. ⌜ r ≡ offerOf sheet (now (header .entry)) (now (payload .entry)) ⌝ }
+    requires { ⌜ heardOf sheet < fullSheet ⌝ }
+    ensures { λ r. ⌜ r ≡ offerOf sheet (frame (now (air .entry)) (now (payload .entry))) ⌝ }
 {
-    if full(sheet) {
-        let answer = Answer::Refused(Refusal {
-            number: SHEET_FULL,
-            place: FULL as usize,
-        });
-        return Offered { answer, sheet };
-    }
-    let answer = frame::read_frame_in(table, header, payload);
+    let answer = frame::read_frame_in(table, air, payload);
     match answer {
-        Answer::Accepted {
-            header: repaired,
-            flips,
-        } => {
-            let after = accept(sheet, repaired, flips);
+        Answer::Accepted { header, flips } => {
+            let after = accept(sheet, header, flips);
             Offered {
                 answer,
                 sheet: after,
@@ -206,9 +243,16 @@ pub fn offer_in(table: &[u16; 1024], sheet: Sheet, header: &[u8], payload: &[u8]
 
 // A frame offered to any sheet. A full sheet refuses it with 17 and stays as it is; else the frame has its own answer, and the
 // sheet has counted it.
-pub fn offer(sheet: Sheet, header: &[u8], payload: &[u8]) -> Offered
-    ensures { λ r. ⌜ r ≡ offerOf sheet (now (header .entry)) (now (payload .entry)) ⌝ }
+pub fn offer(sheet: Sheet, air: &[u8], payload: &[u8]) -> Offered
+    ensures { λ r. ⌜ r ≡ offerOf sheet (frame (now (air .entry)) (now (payload .entry))) ⌝ }
 {
+    if full(sheet) {
+        let answer = Answer::Refused(Refusal {
+            number: SHEET_FULL,
+            place: FULL as usize,
+        });
+        return Offered { answer, sheet };
+    }
     let table = word::table::whole();
-    offer_in(&table, sheet, header, payload)
+    take_in(&table, sheet, air, payload)
 }

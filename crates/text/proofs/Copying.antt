@@ -1,4 +1,4 @@
--- The loop of `put_word`: a word copied byte by byte, from its first to its last.
+-- The loop of `put_text`: a text copied byte by byte, from its first to its last.
 -- Assumes nothing.
 use mathlib.Core.Path.{_≡_, refl, _∙_}
 use mathlib.Core.List.{List}
@@ -9,11 +9,11 @@ use lib.ListN.{length, getD, set, length-set}
 use lib.Seq.{take-length, paste, paste-zero, paste-suc}
 use Rattle.text.specs.Text.{laid, Put}
 
--- the first i bytes of the word are in their places
-pub record Copied (before : List ℕ) (at : ℕ) (word after : List ℕ) (i : ℕ) : Type 0 where
-  pub inside : i ≤ length word
-  pub room : at + length word ≤ length before
-  pub bytes : after ≡ paste before at word i
+-- the first i bytes of the text are in their places
+pub record Copied (before : List ℕ) (at : ℕ) (letters after : List ℕ) (i : ℕ) : Type 0 where
+  pub inside : i ≤ length letters
+  pub room : at + length letters ≤ length before
+  pub bytes : after ≡ paste before at letters i
   pub kept : length after ≡ length before
 
 module _ (l : List ℕ) (at : ℕ) (w : List ℕ) where
@@ -22,7 +22,7 @@ module _ (l : List ℕ) (at : ℕ) (w : List ℕ) where
   starts h = record { inside = zero-le; room = h; bytes = paste-zero l at w; kept = refl }
 
   module _ (m : List ℕ) (i : ℕ) (so : Copied l at w m i) where
-    -- the next byte of the word is put
+    -- the next byte of the text is put
     pub goes-on : (x : ℕ) → x ≡ getD w i 0 → i < length w → Copied l at w (set m (at + i) x) (i + 1)
     goes-on x e h =
         record {

@@ -1,4 +1,4 @@
--- Words and numbers as bytes, and what a call that puts text into a lent slice promises.
+-- Texts and numbers as bytes, and what a call that puts text into a lent slice promises.
 -- Assumes nothing.
 use mathlib.Core.Path.{_≡_}
 use mathlib.Core.List.{List, [], _∷_, _++_}

@@ -16,8 +16,8 @@ use Rattle.base.proofs.Tabulate.{tabulate-at}
 use Rattle.base.proofs.Xor.{xor-assoc, xor-twice, xor-back, xor-swap}
 use Rattle.base.proofs.Ones.{ones-in}
 use Rattle.word.specs.declared.Repaired.the-variants.{Word, Beyond}
-use Rattle.word.specs.Words.{wordLimit, Valid, dataOf, encodeOf, distance}
-use Rattle.word.specs.Repairs.{Near, at, nearest, answerOf, repairOf, isBeyond, wordOf, flipsOf, remainderOf, mark, flipsTo, rowOf, syndromes, byRow}
+use Rattle.word.specs.Words.{wordLimit, Valid, dataOf, encodeOf, distance, positions}
+use Rattle.word.specs.Repairs.{Near, at, nearest, repairedTo, repairOf, isBeyond, wordOf, flipsOf, remainderOf, mark, flipsTo, rowOf, syndromes, byRow, radius, tableRows}
 use Rattle.word.proofs.Valids.{valid-lt}
 use Rattle.word.proofs.Nearest.{Close, Finds, finds, finds-none, nearest-finds, nearest-is, nearest-none, close-moved}
 use Rattle.word.proofs.Division.{taken-valid, remainder-lt}
@@ -30,32 +30,32 @@ repair-above w h = rw (le-ltb w wordLimit h)
 -- a word within three places of a valid one becomes it, with the number of these places
 pub repair-close : (w v : ℕ) → w < wordLimit → Close w v → repairOf w ≡ Word v (distance w v)
 unfolding repairOf
-repair-close w v h c = ap (answerOf w) (nearest-is w v h c)
+repair-close w v h c = ap (repairedTo w) (nearest-is w v h c)
 
 pub repair-far : (w : ℕ) → w < wordLimit → ((v : ℕ) → Close w v → ⊥) → repairOf w ≡ Beyond
 unfolding repairOf
-repair-far w h never = ap (answerOf w) (nearest-none w never h)
+repair-far w h never = ap (repairedTo w) (nearest-none w never h)
 
 -- THE LAW OF FLIPS: a valid word with at most three flips becomes that very word, with exactly these flips
-pub repair-flipped : (v e : ℕ) → Valid v → e < wordLimit → onesIn 15 e ≤ 3 → repairOf (bitXor v e) ≡ Word v (onesIn 15 e)
+pub repair-flipped : (v e : ℕ) → Valid v → e < wordLimit → onesIn positions e ≤ radius → repairOf (bitXor v e) ≡ Word v (onesIn positions e)
 unfolding distance
 repair-flipped v e ok below few =
     let same : distance (bitXor v e) v ≡ onesIn 15 e = ap (onesIn 15) (ap (λ (n : ℕ). bitXor n v) (xor-comm v e) ∙ xor-twice e v) in
     repair-close (bitXor v e) v (xor-lt 15 v e (valid-lt ok) below) (record { valid = ok; near = rw same few }) ∙ ap (Word v) same
 
 -- no answer has more than three flips
-few : (w : ℕ) (n : Near) → Finds w n → flipsOf (answerOf w n) ≤ 3
+few : (w : ℕ) (n : Near) → Finds w n → flipsOf (repairedTo w n) ≤ radius
 few w n (finds v c) = c .near
 few w n (finds-none never) = zero-le
 
-pub repair-few : (w : ℕ) → flipsOf (repairOf w) ≤ 3
+pub repair-few : (w : ℕ) → flipsOf (repairOf w) ≤ radius
 unfolding repairOf
 repair-few w =
     ⊎-elim (λ (h : w < wordLimit). few w (nearest w) (nearest-finds w h)) (λ (h : wordLimit ≤ w). rw (← repair-above w h) zero-le)
     (lt-or-ge w wordLimit)
 
 -- what is not beyond repair is close to the word that it becomes
-close-to : (w : ℕ) (n : Near) → Finds w n → isBeyond (answerOf w n) ≡ false → Close w (wordOf (answerOf w n))
+close-to : (w : ℕ) (n : Near) → Finds w n → isBeyond (repairedTo w n) ≡ false → Close w (wordOf (repairedTo w n))
 close-to w n (finds v c) e = c
 close-to w n (finds-none never) e = absurd (true≢false e)
 
@@ -64,7 +64,7 @@ unfolding repairOf
 repaired-close w h e = close-to w (nearest w) (nearest-finds w h) e
 
 -- a repaired word is a word
-small : (w : ℕ) (n : Near) → Finds w n → wordOf (answerOf w n) < wordLimit
+small : (w : ℕ) (n : Near) → Finds w n → wordOf (repairedTo w n) < wordLimit
 small w n (finds v c) = valid-lt (c .valid)
 small w n (finds-none never) = lit< tt
 
@@ -123,11 +123,11 @@ module _ (w r e : ℕ) (below : w < wordLimit) (divided : r ≡ remainderOf w) (
   repair-flips = by-flips w e here
 
 -- a remainder names a row
-pub row-lt : (w r : ℕ) → w < wordLimit → r ≡ remainderOf w → r < 1024
+pub row-lt : (w r : ℕ) → w < wordLimit → r ≡ remainderOf w → r < tableRows
 row-lt w r h e = rw e (remainder-lt w h)
 
 -- what a copy of the table holds in a row
-pub row-of : (table : List ℕ) (r : ℕ) → table ≡ syndromes → r < 1024 → getD table r 0 ≡ rowOf r
+pub row-of : (table : List ℕ) (r : ℕ) → table ≡ syndromes → r < tableRows → getD table r 0 ≡ rowOf r
 unfolding syndromes
 row-of table r is h = ap (λ (l : List ℕ). getD l r 0) is ∙ tabulate-at rowOf 0 1024 r h
 

@@ -7,7 +7,7 @@ use native.Mathlib.Omega.{arith}
 use lib.Bits.{bitXor, xor-shr, xor-self, xor-comm, xor-zero-r}
 use Rattle.base.proofs.Xor.{xor-twice}
 use Rattle.word.specs.Words.{wordLimit, Valid, dataOf, encodeOf}
-use Rattle.word.specs.Repairs.{remainderOf}
+use Rattle.word.specs.Repairs.{remainderOf, tableRows}
 use Rattle.word.proofs.Multiples.{encode-data}
 use Rattle.word.proofs.Valids.{encode-valid, valid-encode}
 
@@ -26,7 +26,7 @@ remainder-lt w h =
     omega arith
 
 -- THE REMAINDER IS THE ONE OF THE DIVISION: of a multiple and what stands below x^10, it is the latter
-pub remainder-is : (v r : ℕ) → Valid v → r < 1024 → remainderOf (bitXor v r) ≡ r
+pub remainder-is : (v r : ℕ) → Valid v → r < tableRows → remainderOf (bitXor v r) ≡ r
 unfolding remainderOf
 remainder-is v r ok h =
     let same : dataOf (bitXor v r) ≡ dataOf v = xor-shr v r 10 ∙ ap (bitXor (dataOf v)) (div-eq-of-lt h) ∙ xor-zero-r (dataOf v) in

@@ -13,8 +13,8 @@ use borrow.Author.Tests.{lt-ltb, le-ltb}
 use Rattle.base.specs.Lists.{count, tabulate, lowestFrom, lowest, sumTo, howMany}
 use Rattle.base.proofs.Tabulate.{tabulate-same}
 use Rattle.base.proofs.Sums.{sum-same}
-use Rattle.word.specs.Words.{wordLimit, multipleOf, distance}
-use Rattle.word.specs.Repairs.{at, none, within, nearest, mark, flipsTo, rowOf, syndromes}
+use Rattle.word.specs.Words.{wordLimit, multipleOf, distance, positions}
+use Rattle.word.specs.Repairs.{at, none, within, nearest, mark, flipsTo, rowOf, syndromes, radius, tableRows}
 
 unfoldable pub listed : List ℕ
 listed = 0x0 ∷ 0x537 ∷ 0xA6E ∷ 0xF59 ∷ 0x14DC ∷ 0x11EB ∷ 0x1EB2 ∷ 0x1B85 ∷ 0x29B8 ∷ 0x2C8F ∷ 0x23D6 ∷ 0x26E1 ∷ 0x3D64 ∷ 0x3853 ∷ 0x370A ∷ 0x323D ∷ 0x5370 ∷ 0x5647 ∷ 0x591E ∷ 0x5C29 ∷ 0x47AC ∷ 0x429B ∷ 0x4DC2 ∷ 0x48F5 ∷ 0x7AC8 ∷ 0x7FFF ∷ 0x70A6 ∷ 0x7591 ∷ 0x6E14 ∷ 0x6B23 ∷ 0x647A ∷ 0x614D ∷ []
@@ -39,22 +39,22 @@ among r (suc n) i = by (among r n (suc i)) (within r i) refl
     by rest true e = rw (e, lt-ltb i (i + suc n) (omega arith))
     by rest false e = rw (e, add-suc, ← suc-add) rest
 
-pub row-among : (r : ℕ) → r < 1024 → rowOf r ≡ flipsAmong r listed
+pub row-among : (r : ℕ) → r < tableRows → rowOf r ≡ flipsAmong r listed
 unfolding rowOf nearest lowest
 row-among r h = rw (lt-ltb r wordLimit (omega arith), ← listed-is) (sym (among r 32 0))
 
-pub syndromes-among : tabulate 1024 (λ r. flipsAmong r listed) ≡ syndromes
+pub syndromes-among : tabulate tableRows (λ r. flipsAmong r listed) ≡ syndromes
 unfolding syndromes
 syndromes-among = sym (tabulate-same rowOf (λ r. flipsAmong r listed) 1024 row-among)
 
-counted : (test : ℕ → Bool) → howMany 1024 (λ r. test (rowOf r)) ≡ howMany 1024 (λ r. test (flipsAmong r listed))
+counted : (test : ℕ → Bool) → howMany tableRows (λ r. test (rowOf r)) ≡ howMany tableRows (λ r. test (flipsAmong r listed))
 counted test = sum-same 1024 _ _ (λ r h. ap (λ (e : ℕ). cond (test e) 1 0) (row-among r h))
 
 -- "576 with a flip pattern of at most three bits, 448 marked as beyond repair"
-pub rows-with-pattern : howMany 1024 (λ r. leb (onesIn 15 (rowOf r)) 3) ≡ 576
+pub rows-with-pattern : howMany tableRows (λ r. leb (onesIn positions (rowOf r)) radius) ≡ 576
 unfolding sumTo flipsAmong listed onesIn
 rows-with-pattern = counted (λ e. leb (onesIn 15 e) 3)
 
-pub rows-marked : howMany 1024 (λ r. eqb (rowOf r) mark) ≡ 448
+pub rows-marked : howMany tableRows (λ r. eqb (rowOf r) mark) ≡ 448
 unfolding sumTo flipsAmong listed onesIn
 rows-marked = counted (λ e. eqb e mark)

@@ -10,8 +10,9 @@ use Rattle.base.specs.Lists.{lowest, sumTo}
 use Rattle.base.proofs.Xor.{xor-left, xor-none}
 use Rattle.base.proofs.Sums.{sum-same}
 use Rattle.base.proofs.Ones.{ones-xor-le, ones-sum, xor-bit}
-use Rattle.word.specs.Words.{wordLimit, multipleOf, Valid, dataOf, encodeOf, distance}
+use Rattle.word.specs.Words.{wordLimit, multipleOf, Valid, dataOf, encodeOf, distance, positions}
 use Rattle.word.proofs.Multiples.{multiple-xor, multiple-lt, multiple-zero, multiple-encode, multiplier-lt}
+use Rattle.word.specs.Repairs.{radius}
 
 pub valid-lt : {v : ℕ} → Valid v → v < wordLimit
 valid-lt ok = subst (λ (n : ℕ). n < wordLimit) (ok .is) (multiple-lt (ok .multiplier) (ok .small))
@@ -32,7 +33,7 @@ valid-apart {u} {v} a b h =
     sym (a .is) ∙ ap multipleOf (xor-none (a .multiplier) (b .multiplier) none) ∙ b .is
 
 -- at most one valid word lies within three of a number
-pub valid-one : (w : ℕ) {u v : ℕ} → Valid u → Valid v → distance w u ≤ 3 → distance w v ≤ 3 → u ≡ v
+pub valid-one : (w : ℕ) {u v : ℕ} → Valid u → Valid v → distance w u ≤ radius → distance w v ≤ radius → u ≡ v
 unfolding distance
 valid-one w {u} {v} a b near-u near-v =
     valid-apart a b (rw (← xor-left w u v) (le-trans (ones-xor-le 15 (bitXor w u) (bitXor w v)) (add-le-add near-u near-v)))
@@ -42,7 +43,7 @@ unfolding distance onesIn
 distance-self w = ap (onesIn 15) (xor-self w)
 
 -- the places in which two words differ, one by one
-pub distance-places : (a b : ℕ) → distance a b ≡ sumTo 15 (λ i. differ (a / 2 ^ i % 2) (b / 2 ^ i % 2))
+pub distance-places : (a b : ℕ) → distance a b ≡ sumTo positions (λ i. differ (a / 2 ^ i % 2) (b / 2 ^ i % 2))
 unfolding distance
 distance-places a b = ones-sum 15 (bitXor a b) ∙ sum-same 15 _ _ (λ i h. xor-bit a b i)
 

@@ -2,12 +2,12 @@
 -- Assumes nothing.
 use mathlib.Core.Bool.{Bool, true, false, cond}
 use mathlib.Core.List.{List}
-use Prim.Native.Nat.{ℕ}
+use Prim.Native.Nat.{ℕ, _^_}
 use lib.Bits.{bitXor}
 use lib.Count.{onesIn}
 use lib.Dec.{leb, ltb, eqb}
 use Rattle.base.specs.Lists.{lowest, tabulate}
-use Rattle.word.specs.Words.{wordLimit, multipleOf, dataOf, encodeOf, distance}
+use Rattle.word.specs.Words.{positions, wordLimit, multipleOf, validCount, parityBits, dataOf, encodeOf, distance}
 use Rattle.word.specs.declared.Repaired.{Repaired}
 use Rattle.word.specs.declared.Repaired.the-variants.{Word, Beyond}
 
@@ -16,26 +16,30 @@ pub data Near : Type 0 where
   at : ℕ → Near
   none : Near
 
--- the valid word of multiplier q differs from w in at most three places
+-- "at most three places"
+abbrev pub radius : ℕ
+radius = 3
+
+-- the valid word of multiplier q differs from w in no more places than that
 abbrev pub within : ℕ → ℕ → Bool
-within w q = leb (distance w (multipleOf q)) 3
+within w q = leb (distance w (multipleOf q)) radius
 
 -- "the valid word that differs in at most three places, if there is one": the first of the 32 that does
 abbrev pub nearestWord : ℕ → Near
-nearestWord q = cond (ltb q 32) (at (multipleOf q)) none
+nearestWord q = cond (ltb q validCount) (at (multipleOf q)) none
 
 -- "A number above 32,767 is no word: both call it beyond repair"
 unfoldable pub nearest : ℕ → Near
-nearest w = cond (ltb w wordLimit) (nearestWord (lowest 32 (within w))) none
+nearest w = cond (ltb w wordLimit) (nearestWord (lowest validCount (within w))) none
 
 -- what is answered of the nearest valid word: it, and the number of places in which w differs from it
-abbrev pub answerOf : ℕ → Near → Repaired
-answerOf w (at v) = Word v (distance w v)
-answerOf w none = Beyond
+abbrev pub repairedTo : ℕ → Near → Repaired
+repairedTo w (at v) = Word v (distance w v)
+repairedTo w none = Beyond
 
 -- the answer of repair
 unfoldable pub repairOf : ℕ → Repaired
-repairOf w = answerOf w (nearest w)
+repairOf w = repairedTo w (nearest w)
 
 -- the parts of an answer; 0 where there is none
 abbrev pub isBeyond : Repaired → Bool
@@ -67,9 +71,12 @@ unfoldable pub rowOf : ℕ → ℕ
 rowOf r = flipsTo r (nearest r)
 
 -- "The table is indexed by the 10-bit remainder modulo 0x537: 1,024 rows"
+abbrev pub tableRows : ℕ
+tableRows = 2 ^ parityBits
+
 unfoldable pub syndromes : List ℕ
-syndromes = tabulate 1024 rowOf
+syndromes = tabulate tableRows rowOf
 
 -- what a row makes of a word: nothing where it is marked, else the word with the flips undone, and how many they are
 abbrev pub byRow : ℕ → ℕ → Repaired
-byRow w e = cond (eqb e mark) Beyond (Word (bitXor w e) (onesIn 15 e))
+byRow w e = cond (eqb e mark) Beyond (Word (bitXor w e) (onesIn positions e))

@@ -8,9 +8,13 @@ use lib.Count.{onesIn}
 use lib.Dec.{eqb}
 use Rattle.base.specs.Lists.{lowest}
 
+-- the positions of a word
+abbrev pub positions : ℕ
+positions = 15
+
 -- numbers below it are words: "A number above 32,767 is no word"
 abbrev pub wordLimit : ℕ
-wordLimit = 2 ^ 15
+wordLimit = 2 ^ positions
 
 -- the product of two polynomials, of which a has k coefficients
 abbrev pub product : ℕ → ℕ → ℕ → ℕ
@@ -26,19 +30,25 @@ unfoldable pub multipleOf : ℕ → ℕ
 multipleOf q = product 5 q generator
 
 -- "A valid word is a multiple, of degree below 15, of 0x537 .. There are 32"
+abbrev pub validCount : ℕ
+validCount = 32
+
 pub record Valid (v : ℕ) : Type 0 where
   pub multiplier : ℕ
-  pub small : multiplier < 32
+  pub small : multiplier < validCount
   pub is : multipleOf multiplier ≡ v
 
--- the five data bits of a word: header bit 5j+t "stands at position 14-t", so they are its five highest
+-- the five data bits of a word: header bit 5j+t "stands at position 14-t", so they are its five highest, and ten stand below them
+abbrev pub parityBits : ℕ
+parityBits = 10
+
 abbrev pub dataOf : ℕ → ℕ
-dataOf w = w / 2 ^ 10
+dataOf w = w / 2 ^ parityBits
 
 -- the valid word whose data are d
 unfoldable pub encodeOf : ℕ → ℕ
-encodeOf d = multipleOf (lowest 32 (λ q. eqb (dataOf (multipleOf q)) d))
+encodeOf d = multipleOf (lowest validCount (λ q. eqb (dataOf (multipleOf q)) d))
 
--- the number of places, of 15, in which a and b differ
+-- the number of places in which a and b differ
 unfoldable pub distance : ℕ → ℕ → ℕ
-distance a b = onesIn 15 (bitXor a b)
+distance a b = onesIn positions (bitXor a b)

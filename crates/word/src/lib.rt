@@ -1,10 +1,25 @@
 // One coded word: the 32 valid words, the plain search for the nearest of them, and repair by the syndrome table.
 ghost use mathlib.Core.Path.{_≡_};
 ghost use Prim.Native.Nat.{_<_};
-ghost use Rattle.word.specs.Words.{wordLimit, multipleOf, encodeOf};
+ghost use Rattle.word.specs.Words.{wordLimit, validCount, multipleOf, encodeOf};
 ghost use Rattle.word.specs.Repairs.{remainderOf, repairOf, syndromes};
 
 pub mod table;
+
+use table::MARK;
+use table::TABLE_ROWS;
+
+// Numbers below it are words.
+const WORD_LIMIT: u16 = 32768;
+
+// The lowest of the five data bits of a word.
+pub const DATA_BIT: u16 = 1024;
+
+// The valid words.
+const VALID_COUNT: u16 = 32;
+
+// The most places in which a word may differ from a valid one and still be repaired.
+const RADIUS: u32 = 3;
 
 // What repair makes of a number: the valid word within three flips of it, and how many flips those are; or nothing.
 pub enum Repaired {
@@ -25,7 +40,7 @@ fn multiple(q: u16) -> u16
 
 // The valid word of five data bits: the sum of the valid words of the single bits.
 pub fn encode(d: u16) -> u16
-    requires { ⌜ d < 32 ⌝ }
+    requires { ⌜ d < validCount ⌝ }
     ensures { λ v. ⌜ v ≡ encodeOf d ⌝ }
 {
     (d % 2 * 0x537)
@@ -39,15 +54,15 @@ pub fn encode(d: u16) -> u16
 pub fn search(w: u16) -> Repaired
     ensures { λ r. ⌜ r ≡ repairOf w ⌝ }
 {
-    if 32768 <= w {
+    if WORD_LIMIT <= w {
         return Repaired::Beyond;
     }
     let mut found = Repaired::Beyond;
     let mut q: u16 = 0;
-    while q < 32 {
+    while q < VALID_COUNT {
         let v = multiple(q);
         let flips = u16::count_ones(w ^ v);
-        if flips <= 3 {
+        if flips <= RADIUS {
             found = Repaired::Word { word: v, flips };
             break;
         }
@@ -61,19 +76,19 @@ fn remainder(w: u16) -> u16
     requires { ⌜ w < wordLimit ⌝ }
     ensures { λ r. ⌜ r ≡ remainderOf w ⌝ }
 {
-    w ^ encode(w / 1024)
+    w ^ encode(w / DATA_BIT)
 }
 
 // Repair by a lent copy of the table: what a caller with many words copies once.
-pub fn repair_in(table: &[u16; 1024], w: u16) -> Repaired
+pub fn repair_in(table: &[u16; TABLE_ROWS], w: u16) -> Repaired
     requires { ⌜ now table ≡ syndromes ⌝ }
     ensures { λ r. ⌜ r ≡ repairOf w ⌝ }
 {
-    if 32768 <= w {
+    if WORD_LIMIT <= w {
         return Repaired::Beyond;
     }
     let flips = table::row_in(table, remainder(w));
-    if flips == 65535 {
+    if flips == MARK {
         return Repaired::Beyond;
     }
     Repaired::Word {

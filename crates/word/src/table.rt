@@ -1,26 +1,32 @@
 // The syndrome table: the flip patterns of words, by their remainder modulo 0x537.
 ghost use mathlib.Core.Path.{_≡_};
 ghost use Prim.Native.Nat.{_<_};
-ghost use Rattle.word.specs.Repairs.{rowOf, syndromes};
+ghost use Rattle.word.specs.Repairs.{rowOf, tableRows, syndromes};
+
+// The rows: one for each remainder.
+pub const TABLE_ROWS: usize = 1024;
+
+// What a row holds for a remainder whose words are beyond repair.
+pub const MARK: u16 = 65535;
 
 // The whole table: copy it once, and lend the copy.
-pub fn whole() -> [u16; 1024]
+pub fn whole() -> [u16; TABLE_ROWS]
     ensures { λ t. ⌜ t ≡ syndromes ⌝ }
 {
     SYNDROMES
 }
 
 // The row of a remainder in a lent copy.
-pub fn row_in(table: &[u16; 1024], r: u16) -> u16
+pub fn row_in(table: &[u16; TABLE_ROWS], r: u16) -> u16
     requires { ⌜ now table ≡ syndromes ⌝ }
-    requires { ⌜ r < 1024 ⌝ }
+    requires { ⌜ r < tableRows ⌝ }
     ensures { λ e. ⌜ e ≡ rowOf r ⌝ }
 {
     table[r as usize]
 }
 
-// By the remainder: the flips as a number with at most three ones, or 65535 for a word beyond repair.
-const SYNDROMES: [u16; 1024] = [
+// By the remainder: the flips as a number with at most three ones, or the mark, 65535.
+const SYNDROMES: [u16; TABLE_ROWS] = [
     0,
     1,
     2,

@@ -11,8 +11,8 @@ use crate::sheet::{COUNTED_REFUSALS, FULL, SOURCES};
 /// Room for a header slice in a record.
 pub(super) const HEADER_ROOM: usize = 256;
 
-/// Room for a payload of `crc13`.
-pub(super) const CRC13_ROOM: usize = 2_047;
+/// Room for a payload of `crc13`, and the longest of a payload rule.
+pub(super) const PAYLOAD_ROOM: usize = 2_047;
 
 /// Room for a payload of `pages`.
 pub(super) const PAGE_ROOM: usize = 1_100;
@@ -96,7 +96,7 @@ fn crc13_inputs(rng: &mut Rng) -> Vec<Vec<u8>> {
         payload[bit / 8] = 0x80 >> (bit % 8);
         payloads.push(payload);
     }
-    payloads.iter().map(|p| sized(p, CRC13_ROOM)).collect()
+    payloads.iter().map(|p| sized(p, PAYLOAD_ROOM)).collect()
 }
 
 /// No bit, each one bit, all bits, all but one; then bits by chance.

@@ -9,6 +9,7 @@ use std::collections::{BTreeMap, BTreeSet};
 
 use super::inputs::{self, fresh_header, sized, HEADER_ROOM};
 use super::lines::line;
+use super::replies::reply;
 use super::Kind;
 use crate::air::WORDS;
 use crate::header::LONGEST_PAYLOAD;
@@ -78,7 +79,7 @@ fn taken(kind: Kind, share: Share, mut inputs: Vec<Vec<u8>>) -> Vec<Vec<u8>> {
     inputs.retain(|input| {
         let turn = number % share.every == 0;
         number += 1;
-        let new = told.is_new(&line(kind, input), share.places);
+        let new = told.is_new(&line(kind, &reply(kind, input)), share.places);
         turn || new || is_limit(kind, input)
     });
     inputs

@@ -5,12 +5,13 @@ use Prim.Native.Nat.{_-_}
 use Rattle.air.proofs.Collecting.{Collected, collect-starts, bit-fits, product-fits, sum-fits, weight-fits, collect-goes-on, collect-ends}
 use Rattle.air.proofs.gather.Statement.{statement}
 use Rattle.air.proofs.gather.Tie as tie
+use Rattle.word.specs.Words.{positions}
 
 abbrev Inv-loop : tie.InvT-loop
 Inv-loop air j word₀ weight₀ i₀ word weight i = Collected air j i weight word
 
 abbrev μ-loop : tie.MeasureT-loop
-μ-loop air j word₀ weight₀ i₀ word weight i = 15 - i
+μ-loop air j word₀ weight₀ i₀ word weight i = positions - i
 
 loop-holds : tie.Need-loop-holds Inv-loop μ-loop
 loop-holds c = search (needs, collect-starts)

@@ -11,7 +11,7 @@ abbrev Inv-loop : tie.InvT-loop
 Inv-loop air all₀ j₀ all j = Filled (wordAt air) wordCount all₀ j all
 
 abbrev μ-loop : tie.MeasureT-loop
-μ-loop air all₀ j₀ all j = 14 - j
+μ-loop air all₀ j₀ all j = wordCount - j
 
 loop-holds : tie.Need-loop-holds Inv-loop μ-loop
 loop-holds c = search (needs, fill-starts)

@@ -3,21 +3,24 @@
 use Prim.Native.Nat.{_-_}
 use borrow.Author.Needs.{needs}
 use Rattle.base.proofs.Fold.{Upward, up-starts, rule-goes-on, rule-ends}
-use Rattle.crc.specs.Crc.{crcStep, bitsOf, poly13}
+use Rattle.crc.specs.Crc.{crcStep, byteBits, bitsOf, poly13}
 use Rattle.crc.proofs.byte13.Statement.{statement}
 use Rattle.crc.proofs.byte13.Tie as tie
 
 abbrev Inv-loop : tie.InvT-loop
-Inv-loop crc byte state₀ t₀ state t = Upward (crcStep 13 poly13) crc (bitsOf 8 byte) t state
+Inv-loop crc byte state₀ t₀ state t = Upward (crcStep 13 poly13) crc (bitsOf byteBits byte) t state
 
 abbrev μ-loop : tie.MeasureT-loop
-μ-loop crc byte state₀ t₀ state t = 8 - t
+μ-loop crc byte state₀ t₀ state t = byteBits - t
 
 loop-holds : tie.Need-loop-holds Inv-loop μ-loop
 loop-holds c = search (needs, up-starts)
 
 sub-step13 : tie.Need-sub-step13 Inv-loop μ-loop
 sub-step13 c = search needs
+
+sub-step13-2 : tie.Need-sub-step13-2 Inv-loop μ-loop
+sub-step13-2 c = search needs
 
 shr-step13 : tie.Need-shr-step13 Inv-loop μ-loop
 shr-step13 c = search needs
@@ -45,6 +48,7 @@ byte13-spec =
     μ-loop
     loop-holds
     sub-step13
+    sub-step13-2
     shr-step13
     step13-requires
     add-t

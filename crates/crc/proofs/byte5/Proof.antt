@@ -3,22 +3,25 @@
 use Prim.Native.Nat.{_-_}
 use borrow.Author.Needs.{needs}
 use Rattle.base.proofs.Fold.{Upward, up-starts, rule-goes-on, rule-ends}
-use Rattle.crc.specs.Crc.{crcStep, bitsOf}
+use Rattle.crc.specs.Crc.{crcStep, byteBits, bitsOf}
 use Rattle.crc.specs.Crc5.{poly5}
 use Rattle.crc.proofs.byte5.Statement.{statement}
 use Rattle.crc.proofs.byte5.Tie as tie
 
 abbrev Inv-loop : tie.InvT-loop
-Inv-loop crc byte state₀ t₀ state t = Upward (crcStep 5 poly5) crc (bitsOf 8 byte) t state
+Inv-loop crc byte state₀ t₀ state t = Upward (crcStep 5 poly5) crc (bitsOf byteBits byte) t state
 
 abbrev μ-loop : tie.MeasureT-loop
-μ-loop crc byte state₀ t₀ state t = 8 - t
+μ-loop crc byte state₀ t₀ state t = byteBits - t
 
 loop-holds : tie.Need-loop-holds Inv-loop μ-loop
 loop-holds c = search (needs, up-starts)
 
 sub-step5 : tie.Need-sub-step5 Inv-loop μ-loop
 sub-step5 c = search needs
+
+sub-step5-2 : tie.Need-sub-step5-2 Inv-loop μ-loop
+sub-step5-2 c = search needs
 
 shr-step5 : tie.Need-shr-step5 Inv-loop μ-loop
 shr-step5 c = search needs
@@ -46,6 +49,7 @@ byte5-spec =
     μ-loop
     loop-holds
     sub-step5
+    sub-step5-2
     shr-step5
     step5-requires
     add-t

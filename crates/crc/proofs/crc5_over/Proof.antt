@@ -32,11 +32,11 @@ byte5-requires c κs = search needs
 loop-holds : tie.Need-loop-holds Inv-loop μ-loop
 loop-holds c = search (needs, nine-starts)
 
-mul-byte5 : tie.Need-mul-byte5 Inv-loop μ-loop
-mul-byte5 c = search needs
-
 sub-byte5 : tie.Need-sub-byte5 Inv-loop μ-loop
 sub-byte5 c = search needs
+
+mul-byte5 : tie.Need-mul-byte5 Inv-loop μ-loop
+mul-byte5 c = search needs
 
 shr-byte5 : tie.Need-shr-byte5 Inv-loop μ-loop
 shr-byte5 c = search needs
@@ -72,8 +72,8 @@ crc5-over-spec =
     cast-byte5
     byte5-requires
     loop-holds
-    mul-byte5
     sub-byte5
+    mul-byte5
     shr-byte5
     cast-byte5-2
     byte5-requires-2

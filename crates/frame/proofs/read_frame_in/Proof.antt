@@ -11,8 +11,8 @@ read-header-in-requires c κs = search needs
 enum-known-why : tie.Need-enum-known-why
 enum-known-why c = search needs
 
-enum-known-repaired : tie.Need-enum-known-repaired
-enum-known-repaired c = search needs
+enum-known-header : tie.Need-enum-known-header
+enum-known-header c = search needs
 
 judge-payload-requires : tie.Need-judge-payload-requires
 judge-payload-requires c κs = search needs
@@ -29,7 +29,7 @@ read-frame-in-spec =
     (tie.spec
     read-header-in-requires
     enum-known-why
-    enum-known-repaired
+    enum-known-header
     judge-payload-requires
     returns
     returns-2)

@@ -35,7 +35,7 @@ heard-requires : tie.Need-heard-requires Inv-loop μ-loop
 heard-requires c κs = search needs
 
 take-record-requires : tie.Need-take-record-requires Inv-loop μ-loop
-take-record-requires c κs = (search needs, (search needs, (search (needs, all-there), search (needs, has-room))))
+take-record-requires c κs = (search needs, (search needs, (search needs, (search (needs, all-there), search (needs, has-room)))))
 
 add-used : tie.Need-add-used Inv-loop μ-loop
 add-used c = search (needs, size-fits)

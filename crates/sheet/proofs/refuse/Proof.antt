@@ -1,15 +1,15 @@
--- `sheet::refuse` meets its contract: the count of the number is one more, and all else is kept.
+-- `sheet::refuse` meets its contract: the number's count is one more, and all else is kept; or the number has none.
 -- Assumes nothing.
 use borrow.Author.Needs.{needs}
-use Rattle.sheet.proofs.Offering.{refuses}
+use Rattle.sheet.proofs.Offering.{refuses, refuses-not}
 use Rattle.sheet.proofs.refuse.Statement.{statement}
 use Rattle.sheet.proofs.refuse.Tie as tie
 
-sub-k : tie.Need-sub-k
-sub-k c = search needs
+slot-requires : tie.Need-slot-requires
+slot-requires c κs = search needs
 
-cast-k : tie.Need-cast-k
-cast-k c = search needs
+returns : tie.Need-returns
+returns c = search (needs, refuses-not)
 
 mul-add : tie.Need-mul-add
 mul-add c = search needs
@@ -26,18 +26,18 @@ mul-after c = search needs
 element-write-after : tie.Need-element-write-after
 element-write-after c = search needs
 
-returns : tie.Need-returns
-returns c = search (needs, refuses)
+returns-2 : tie.Need-returns-2
+returns-2 c = search (needs, refuses)
 
 pub refuse-spec : {M : Type 1} → statement M
 refuse-spec =
     tie.close
     (tie.spec
-    sub-k
-    cast-k
+    slot-requires
+    returns
     mul-add
     element-copy-out-add
     add-requires
     mul-after
     element-write-after
-    returns)
+    returns-2)

@@ -11,7 +11,7 @@ abbrev Inv-loop : tie.InvT-loop
 Inv-loop sheet sum₀ k₀ sum k = Summed refusalCounts (refusalsAt sheet) k sum
 
 abbrev μ-loop : tie.MeasureT-loop
-μ-loop sheet sum₀ k₀ sum k = 8 - k
+μ-loop sheet sum₀ k₀ sum k = refusalCounts - k
 
 loop-holds : tie.Need-loop-holds Inv-loop μ-loop
 loop-holds c = search (needs, sum-starts)

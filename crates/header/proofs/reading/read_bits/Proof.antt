@@ -8,8 +8,8 @@ use Rattle.header.proofs.reading.read_bits.Tie as tie
 words-requires : tie.Need-words-requires
 words-requires c κs = search needs
 
-mend-requires : tie.Need-mend-requires
-mend-requires c κs = search needs
+repair-words-requires : tie.Need-repair-words-requires
+repair-words-requires c κs = search needs
 
 returns : tie.Need-returns
 returns c = search (needs, gives-3)
@@ -22,4 +22,4 @@ returns-2 c = search (needs, leaves)
 
 pub read-bits-spec : {M : Type 1} → statement M
 read-bits-spec =
-    tie.close (tie.spec words-requires mend-requires returns judge-words-requires returns-2)
+    tie.close (tie.spec words-requires repair-words-requires returns judge-words-requires returns-2)

@@ -9,9 +9,10 @@ use Rattle.header.specs.Fields.{dataAt, codedOf}
 use Rattle.header.proofs.Coding.{coded-asked, coded-word}
 use Rattle.header.proofs.writing.coded.Statement.{statement}
 use Rattle.header.proofs.writing.coded.Tie as tie
+use Rattle.crc.specs.Halves.{headerBits}
 
 abbrev Inv-loop : tie.InvT-loop
-Inv-loop hi lo words₀ j₀ words j = Filled (λ k. encodeOf (dataAt (hi * 2 ^ 40 + lo) k)) wordCount words₀ j words
+Inv-loop hi lo words₀ j₀ words j = Filled (λ k. encodeOf (dataAt (headerBits hi lo) k)) wordCount words₀ j words
 
 abbrev μ-loop : tie.MeasureT-loop
 μ-loop hi lo words₀ j₀ words j = 14 - j

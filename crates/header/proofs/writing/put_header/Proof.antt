@@ -1,8 +1,8 @@
--- `header::writing::put_header` meets its contract: the words that are spread are those of the header's bits.
+-- `header::writing::put_header` meets its contract: the words that are sent are those of the header's bits.
 -- Assumes nothing.
 use borrow.Author.Needs.{needs}
 use Rattle.header.proofs.Packing.{hi-lt, lo-lt, whole-lt, whole-fits, packed}
-use Rattle.header.proofs.Refusing.{spread-written}
+use Rattle.header.proofs.Refusing.{sent-written}
 use Rattle.header.proofs.writing.put_header.Statement.{statement}
 use Rattle.header.proofs.writing.put_header.Tie as tie
 
@@ -30,14 +30,14 @@ add-coded c = search (needs, whole-fits)
 coded-requires : tie.Need-coded-requires
 coded-requires c κs = search (needs, whole-lt)
 
-spread-requires : tie.Need-spread-requires
-spread-requires c κs = search needs
+send-requires : tie.Need-send-requires
+send-requires c κs = search needs
 
 same-length : tie.Need-same-length
 same-length c = search needs
 
 returns : tie.Need-returns
-returns c = search (needs, spread-written, packed)
+returns c = search (needs, sent-written, packed)
 
 pub put-header-spec : {M : Type 1} → statement M
 put-header-spec =
@@ -51,6 +51,6 @@ put-header-spec =
     cast-crc5
     add-coded
     coded-requires
-    spread-requires
+    send-requires
     same-length
     returns)

@@ -1,0 +1,24 @@
+-- Fourteen valid words, and words that are within three places of them.
+-- Assumes nothing.
+use mathlib.Core.Path.{_≡_}
+use mathlib.Core.List.{List}
+use Prim.Native.Nat.{ℕ, _<_, _≤_}
+use lib.ListN.{length, getD}
+use Rattle.base.specs.Lists.{sumTo}
+use Rattle.word.specs.Words.{Valid, distance}
+use Rattle.word.specs.Repairs.{radius}
+use Rattle.air.specs.Air.{wordCount}
+
+-- fourteen valid words
+pub record ValidWords (words : List ℕ) : Type 0 where
+  pub long : length words ≡ wordCount
+  pub each : (j : ℕ) → j < wordCount → Valid (getD words j 0)
+
+-- "the valid word that differs in at most three places": each word differs so from the valid one beside it
+pub record AllClose (words valid : List ℕ) : Type 0 where
+  pub fourteen : ValidWords valid
+  pub near : (j : ℕ) → j < wordCount → distance (getD words j 0) (getD valid j 0) ≤ radius
+
+-- in how many places the words differ from these
+abbrev pub distances : List ℕ → List ℕ → ℕ
+distances words valid = sumTo wordCount (λ j. distance (getD words j 0) (getD valid j 0))

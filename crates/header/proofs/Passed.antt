@@ -1,0 +1,79 @@
+-- Rows of the paper's table that are past, by name: for each table what holds where none of its rows applies.
+-- Assumes nothing.
+use mathlib.Core.Path.{_≡_}
+use Prim.Native.Nat.{ℕ, _≤_}
+use native.Mathlib.Omega.{arith}
+use mathlib.Core.List.{List}
+use lib.ListN.{length}
+use borrow.Author.Tests.{le-ltb, ltb-false}
+use Rattle.base.specs.Lists.{AreBits}
+use Rattle.base.proofs.First.{NoneApplies}
+use Rattle.base.proofs.Tests.{differs-not, not-differs}
+use Rattle.crc.specs.Crc5.{crc5Of}
+use Rattle.air.specs.Air.{wordCount, airBits, payloadLimit, firstNoBit}
+use Rattle.air.specs.WordRepairs.{firstBeyond}
+use Rattle.air.proofs.Bits.{are-bits, no-bit-none, no-bit-le}
+use Rattle.air.proofs.Answers.{beyond-le}
+use Rattle.header.specs.declared.Fields.{Fields}
+use Rattle.header.specs.Fields.{fieldCount, valuesOf, lastSource, lastCoding, headerOf}
+use Rattle.header.specs.Reading.{Signal, arrived, airChecks, headerChecks}
+use Rattle.header.specs.Writing.{firstOver, writeChecks}
+
+-- 1 to 3
+pub record AirPassed (s : Signal) : Type 0 where
+  pub long : length (s .air) ≡ airBits
+  pub bits : AreBits (s .air)
+  pub repairable : firstBeyond (arrived s) ≡ wordCount
+
+module _ (s : Signal) where
+  pub air-passed : NoneApplies (airChecks s) → AirPassed s
+  air-passed none =
+      let long : length (s .air) ≡ airBits = not-differs (length (s .air)) airBits (none .0) in
+      record {
+        long = long;
+        bits = are-bits (s .air) (omega (arith, long, no-bit-le (s .air), ltb-false (firstNoBit (s .air)) airBits (none .1 .0)));
+        repairable = omega (arith, beyond-le (arrived s), ltb-false (firstBeyond (arrived s)) wordCount (none .1 .1 .0));
+      }
+
+  pub air-passes : AirPassed s → NoneApplies (airChecks s)
+  air-passes so = (
+    differs-not (length (s .air)) airBits (so .long),
+    (
+      le-ltb (firstNoBit (s .air)) airBits (omega (arith, so .long, no-bit-none (s .air) (so .bits))),
+      (le-ltb (firstBeyond (arrived s)) wordCount (omega (arith, so .repairable)), tt),
+    ),
+  )
+
+-- 4 to 6
+pub record HeaderPassed (n : ℕ) : Type 0 where
+  pub same-crc5 : crc5Of n ≡ headerOf n .«crc5»
+  pub known-source : headerOf n .«fields» .«src_id» ≤ lastSource
+  pub known-coding : headerOf n .«fields» .«ai_type_src» ≤ lastCoding
+
+module _ (n : ℕ) where
+  pub header-passed : NoneApplies (headerChecks n) → HeaderPassed n
+  header-passed none = record {
+    same-crc5 = not-differs (crc5Of n) (headerOf n .«crc5») (none .0);
+    known-source = ltb-false lastSource (headerOf n .«fields» .«src_id») (none .1 .0);
+    known-coding = ltb-false lastCoding (headerOf n .«fields» .«ai_type_src») (none .1 .1 .0);
+  }
+
+  pub header-passes : HeaderPassed n → NoneApplies (headerChecks n)
+  header-passes so = (
+    differs-not (crc5Of n) (headerOf n .«crc5») (so .same-crc5),
+    (
+      le-ltb lastSource (headerOf n .«fields» .«src_id») (so .known-source),
+      (le-ltb lastCoding (headerOf n .«fields» .«ai_type_src») (so .known-coding), tt),
+    ),
+  )
+
+-- 14 and 15: what the fields and the payload have to be for a header to be written
+pub record Writable (f : Fields) (payload : List ℕ) : Type 0 where
+  pub ranges : fieldCount ≤ firstOver (valuesOf f)
+  pub short : length payload ≤ payloadLimit
+
+pub write-passed : (f : Fields) (payload : List ℕ) (room : ℕ) → NoneApplies (writeChecks f payload room) → Writable f payload
+write-passed f payload room none = record {
+  ranges = ltb-false (firstOver (valuesOf f)) fieldCount (none .1 .0);
+  short = ltb-false payloadLimit (length payload) (none .1 .1 .0);
+}

@@ -1,0 +1,172 @@
+// The text of every line, put into a lent slice at a place. Each function answers the place after what it put.
+use base::Refusal;
+use header::Answer;
+use sheet::Sheet;
+ghost use mathlib.Core.Path.{_≡_};
+ghost use mathlib.Core.List.{_++_};
+ghost use Prim.Native.Nat.{_+_, _*_, _≤_};
+ghost use lib.ListN.{length};
+ghost use Rattle.text.specs.Text.{decimalOf, mostDigits, Put};
+ghost use Rattle.header.specs.Fields.{radioOf};
+ghost use Rattle.lines.specs.Lines.{title, letterOf, speakerOf, openingOf, acceptedLine, refusedLine, lineOf, lastLine, closingOf};
+ghost use Rattle.lines.specs.Rooms.{speakerRoom, openingRoom, lineRoom};
+
+// Puts three numbers, each with a text after it.
+fn put_three(
+    out: &mut [u8],
+    at: usize,
+    x: u64,
+    after_x: &[u8],
+    y: u64,
+    after_y: &[u8],
+    z: u64,
+    after_z: &[u8],
+) -> usize
+    requires { ⌜ at + (3 * mostDigits + (length (now «after_x») + length (now «after_y») + length (now «after_z»))) ≤ length (now out) ⌝ }
+    ensures { λ r. ⌜ Put (now (out .entry)) at ((decimalOf x ++ now («after_x» .entry)) ++ (decimalOf y ++ now («after_y» .entry)) ++ (decimalOf z ++ now («after_z» .entry))) (now (out .exit)) r ⌝ }
+    ensures { λ r. ⌜ r ≤ at + (3 * mostDigits + (length (now («after_x» .entry)) + length (now («after_y» .entry)) + length (now («after_z» .entry)))) ⌝ }
+{
+    let a = text::put_field(out, at, x, after_x);
+    let b = text::put_field(out, a, y, after_y);
+    text::put_field(out, b, z, after_z)
+}
+
+// A to D for the sources 0 to 7.
+fn letter(src_id: u8) -> u8
+    ensures { λ r. ⌜ r ≡ letterOf «src_id» ⌝ }
+{
+    b'A' + header::satellite(src_id)
+}
+
+fn radio(src_id: u8) -> u64
+    ensures { λ r. ⌜ r ≡ radioOf «src_id» ⌝ }
+{
+    header::radio(src_id) as u64
+}
+
+// Puts who spoke, as `B radio 2`.
+fn put_speaker(out: &mut [u8], at: usize, src_id: u8) -> usize
+    requires { ⌜ at + speakerRoom ≤ length (now out) ⌝ }
+    ensures { λ r. ⌜ Put (now (out .entry)) at (speakerOf «src_id») (now (out .exit)) r ⌝ }
+    ensures { λ r. ⌜ r ≤ at + speakerRoom ⌝ }
+{
+    let name = [letter(src_id)];
+    let a = text::put_text(out, at, &name);
+    let b = text::put_text(out, a, b" radio ");
+    text::put_decimal(out, b, radio(src_id))
+}
+
+// Opens the line of an accepted record k.
+fn put_opening(out: &mut [u8], at: usize, k: u64, src_id: u8) -> usize
+    requires { ⌜ at + openingRoom ≤ length (now out) ⌝ }
+    ensures { λ r. ⌜ Put (now (out .entry)) at (openingOf k «src_id») (now (out .exit)) r ⌝ }
+    ensures { λ r. ⌜ r ≤ at + openingRoom ⌝ }
+{
+    let a = text::put_field(out, at, k, b" accepted ");
+    put_speaker(out, a, src_id)
+}
+
+fn put_accepted(
+    out: &mut [u8],
+    at: usize,
+    k: u64,
+    src_id: u8,
+    tx: u8,
+    flips: u32,
+    bytes: usize,
+) -> usize
+    requires { ⌜ at + lineRoom ≤ length (now out) ⌝ }
+    ensures { λ r. ⌜ Put (now (out .entry)) at (acceptedLine k «src_id» tx flips bytes) (now (out .exit)) r ⌝ }
+    ensures { λ r. ⌜ r ≤ at + lineRoom ⌝ }
+{
+    let a = put_opening(out, at, k, src_id);
+    let b = text::put_text(out, a, b" tx ");
+    put_three(
+        out,
+        b,
+        tx as u64,
+        b" repaired ",
+        flips as u64,
+        b" bytes ",
+        bytes as u64,
+        b"\n",
+    )
+}
+
+fn put_refused(out: &mut [u8], at: usize, k: u64, why: Refusal) -> usize
+    requires { ⌜ at + lineRoom ≤ length (now out) ⌝ }
+    ensures { λ r. ⌜ Put (now (out .entry)) at (refusedLine k why) (now (out .exit)) r ⌝ }
+    ensures { λ r. ⌜ r ≤ at + lineRoom ⌝ }
+{
+    put_three(
+        out,
+        at,
+        k,
+        b" refused ",
+        why.number as u64,
+        b" ",
+        why.place as u64,
+        b"\n",
+    )
+}
+
+// Puts the line of record k, which has so many payload bytes.
+pub fn put_line(out: &mut [u8], at: usize, k: u64, bytes: usize, answer: Answer) -> usize
+    requires { ⌜ at + lineRoom ≤ length (now out) ⌝ }
+    ensures { λ r. ⌜ Put (now (out .entry)) at (lineOf k bytes answer) (now (out .exit)) r ⌝ }
+    ensures { λ r. ⌜ r ≤ at + lineRoom ⌝ }
+{
+    match answer {
+        Answer::Accepted { header, flips } => put_accepted(
+            out,
+            at,
+            k,
+            header.fields.src_id,
+            header.fields.fr_cnt_tx,
+            flips,
+            bytes,
+        ),
+        Answer::Refused(why) => put_refused(out, at, k, why),
+    }
+}
+
+// Puts the first line.
+pub fn put_title(out: &mut [u8]) -> usize
+    requires { ⌜ lineRoom ≤ length (now out) ⌝ }
+    ensures { λ r. ⌜ Put (now (out .entry)) 0 title (now (out .exit)) r ⌝ }
+    ensures { λ r. ⌜ r ≤ lineRoom ⌝ }
+{
+    text::put_text(out, 0, b"pass sheet\n")
+}
+
+fn put_last(out: &mut [u8], at: usize, sheet: Sheet) -> usize
+    requires { ⌜ at + lineRoom ≤ length (now out) ⌝ }
+    ensures { λ r. ⌜ Put (now (out .entry)) at (lastLine sheet) (now (out .exit)) r ⌝ }
+{
+    let heard = sheet::heard(sheet);
+    let accepted = sheet::accepted(sheet);
+    let refused = sheet::refused(sheet);
+    let a = text::put_text(out, at, b"heard ");
+    put_three(
+        out,
+        a,
+        heard,
+        b" accepted ",
+        accepted,
+        b" refused ",
+        refused,
+        b"\n",
+    )
+}
+
+// Puts the last line, after `cut` where the input was cut.
+pub fn put_closing(out: &mut [u8], at: usize, sheet: Sheet, cut: bool) -> usize
+    requires { ⌜ at + 2 * lineRoom ≤ length (now out) ⌝ }
+    ensures { λ r. ⌜ Put (now (out .entry)) at (closingOf sheet cut) (now (out .exit)) r ⌝ }
+{
+    if cut {
+        let a = text::put_text(out, at, b"cut\n");
+        return put_last(out, a, sheet);
+    }
+    put_last(out, at, sheet)
+}

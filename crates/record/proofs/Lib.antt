@@ -1,0 +1,3 @@
+pub mod Cuts
+pub mod Stays
+pub mod Moving

@@ -1,0 +1,39 @@
+-- `sheet::take_in` meets its contract: the frame's answer is counted, which has its place on the sheet.
+-- Assumes nothing.
+use borrow.Author.Needs.{needs}
+use Rattle.sheet.proofs.Offering.{has-record, takes}
+use Rattle.sheet.proofs.take_in.Statement.{statement}
+use Rattle.sheet.proofs.take_in.Tie as tie
+
+read-frame-in-requires : tie.Need-read-frame-in-requires
+read-frame-in-requires c κs = search needs
+
+enum-known-answer : tie.Need-enum-known-answer
+enum-known-answer c = search needs
+
+accept-requires : tie.Need-accept-requires
+accept-requires c κs = search (needs, has-record)
+
+enum-known-answer-2 : tie.Need-enum-known-answer-2
+enum-known-answer-2 c = search needs
+
+refuse-requires : tie.Need-refuse-requires
+refuse-requires c κs = search needs
+
+returns : tie.Need-returns
+returns c = search (needs, takes)
+
+returns-2 : tie.Need-returns-2
+returns-2 c = search (needs, takes)
+
+pub take-in-spec : {M : Type 1} → statement M
+take-in-spec =
+    tie.close
+    (tie.spec
+    read-frame-in-requires
+    enum-known-answer
+    accept-requires
+    enum-known-answer-2
+    refuse-requires
+    returns
+    returns-2)

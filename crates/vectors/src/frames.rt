@@ -1,0 +1,102 @@
+// Headers and frames, read and written.
+use crate::layout;
+use crate::layout::Record;
+use crate::layout::Reply;
+use crate::numbers;
+ghost use mathlib.Core.Path.{_≡_};
+ghost use Prim.Native.Nat.{_+_, _≤_};
+ghost use lib.ListN.{length};
+use base::Written;
+use header::Answer;
+use header::Fields;
+use header::Header;
+
+// What the output of the header writer holds beforehand.
+const HELD: u8 = 7;
+
+// Puts fields 0 to 13, and answers the place after them.
+fn put_fields(reply: &mut Reply, f: Fields) -> usize
+    ensures { λ r. do ⌜ r ≡ (← ⟦layout::VALUES⟧ .entry) + 14 ⌝ }
+{
+    reply[layout::VALUES] = f.src_id;
+    reply[layout::VALUES + 1] = f.dst_id;
+    reply[layout::VALUES + 2] = f.fr_cnt_tx;
+    reply[layout::VALUES + 3] = f.fr_cnt_rx;
+    reply[layout::VALUES + 4] = f.snr;
+    reply[layout::VALUES + 5] = f.ai_type_src;
+    reply[layout::VALUES + 6] = f.ai_type_dst;
+    reply[layout::VALUES + 7] = f.dfc_id;
+    reply[layout::VALUES + 8] = f.caller;
+    reply[layout::VALUES + 9] = f.arq;
+    reply[layout::VALUES + 10] = f.pdu_type_id;
+    reply[layout::VALUES + 11] = f.bch_rq;
+    reply[layout::VALUES + 12] = f.hailing;
+    reply[layout::VALUES + 13] = f.ud_fl1;
+    layout::VALUES + 14
+}
+
+fn put_accepted(reply: &mut Reply, header: Header, flips: u32) {
+    let fields = header.fields;
+    let next = put_fields(reply, fields);
+    let next = numbers::put_two(reply, next, header.pdu_length);
+    let next = numbers::put_two(reply, next, header.crc13);
+    let next = numbers::put_byte(reply, next, header.crc5);
+    numbers::put_four(reply, next, flips);
+}
+
+// Puts the answer to a header alone or to a frame.
+pub fn put_answer(reply: &mut Reply, answer: Answer) {
+    match answer {
+        Answer::Accepted { header, flips } => put_accepted(reply, header, flips),
+        Answer::Refused(why) => numbers::put_refusal(reply, why),
+    }
+}
+
+pub fn header_reply(record: &Record, reply: &mut Reply) {
+    let air = numbers::sized(record, layout::HEADER_ROOM);
+    put_answer(reply, header::read_header(air));
+}
+
+pub fn frame_reply(record: &Record, reply: &mut Reply) {
+    let mut space = [0u8; layout::PAYLOAD_ROOM];
+    let payload = numbers::payload_at(record, layout::FRAMES_RULE, &mut space);
+    let air = numbers::sized(record, layout::HEADER_ROOM);
+    put_answer(reply, frame::read_frame(air, payload));
+}
+
+fn fields_of(record: &Record) -> Fields {
+    Fields {
+        src_id: record[0],
+        dst_id: record[1],
+        fr_cnt_tx: record[2],
+        fr_cnt_rx: record[3],
+        snr: record[4],
+        ai_type_src: record[5],
+        ai_type_dst: record[6],
+        dfc_id: record[7],
+        caller: record[8],
+        arq: record[9],
+        pdu_type_id: record[10],
+        bch_rq: record[11],
+        hailing: record[12],
+        ud_fl1: record[13],
+    }
+}
+
+// Has a header written to a part of the reply, and answers what the writer does.
+fn write_at(record: &Record, reply: &mut [u8], at: usize, room: usize) -> Written
+    requires { ⌜ at + room ≤ length (now reply) ⌝ }
+{
+    let mut space = [0u8; layout::PAYLOAD_ROOM];
+    let payload = numbers::payload_at(record, layout::WRITES_RULE, &mut space);
+    let out = &mut reply[at..at + room];
+    numbers::fill(out, room, HELD, 0);
+    header::write_header(fields_of(record), payload, out)
+}
+
+pub fn write_reply(record: &Record, reply: &mut Reply) {
+    let room = numbers::length_at(record, layout::WRITES_ROOM, layout::AIR_ROOM);
+    let next = numbers::put_two(reply, layout::VALUES, room as u16);
+    let answer = write_at(record, reply, next, room);
+    numbers::put_written(reply, answer);
+}

@@ -1,0 +1,122 @@
+// The kinds, their sizes and what stands where in records and replies, in bytes: the format of independent/README.md.
+// A part starts where the one before it ends. A record is told without its kind's byte.
+ghost use Prim.Native.Nat.{_≤_};
+
+// The kinds, by the byte before a record.
+pub const WORDS: u8 = 0;
+
+pub const ENCODE: u8 = 1;
+
+pub const CRC13: u8 = 2;
+
+pub const CRC5: u8 = 3;
+
+pub const HEADERS: u8 = 4;
+
+pub const WRITES: u8 = 5;
+
+pub const FRAMES: u8 = 6;
+
+pub const PAGES: u8 = 7;
+
+pub const ROWS: u8 = 8;
+
+pub const SHOWN: u8 = 9;
+
+pub const SHEETS: u8 = 10;
+
+// Room for every record and for every reply. The longest are one of `crc13` and one of `writes`.
+pub const RECORD_BYTES: usize = LENGTH + PAYLOAD_ROOM;
+
+pub const REPLY_BYTES: usize = VALUES + 2 + AIR_ROOM;
+
+pub type Record = [u8; RECORD_BYTES];
+
+pub type Reply = [u8; REPLY_BYTES];
+
+// A length, before the bytes that it counts.
+pub const LENGTH: usize = 2;
+
+// The most bytes of a header slice, of a payload of `crc13` or of a payload rule, and of a payload of `pages`.
+pub const HEADER_ROOM: usize = 256;
+
+pub const PAYLOAD_ROOM: usize = 2047;
+
+pub const PAGE_ROOM: usize = 1100;
+
+// The most room of the header writer's output, and of the page writer's.
+pub const AIR_ROOM: usize = 256;
+
+pub const USER_ROOM: usize = 64;
+
+// A payload rule has so many bytes, and stands here in `writes`, `frames` and `sheets`.
+const RULE: usize = 4;
+
+pub const WRITES_RULE: usize = WRITES_ROOM + 2;
+
+pub const FRAMES_RULE: usize = LENGTH + HEADER_ROOM;
+
+pub const SHEETS_RULE: usize = SHEETS_HEADER + 210;
+
+// The room of an output, after 14 fields in `writes` and after 17 rows in `rows`.
+pub const WRITES_ROOM: usize = 14;
+
+pub const ROWS_ROOM: usize = 34;
+
+// c0, c1, S and x of `shown`.
+pub const C0: usize = 0;
+
+pub const C1: usize = 8;
+
+pub const SPREAD: usize = 16;
+
+pub const RAW: usize = 18;
+
+// A sheet: eight sources, then eight counts of refusals. In a record of `sheets` the header follows it.
+pub const SOURCE: usize = 18;
+
+pub const REFUSALS: usize = 8 * SOURCE;
+
+pub const COUNT: usize = 4;
+
+pub const SHEETS_HEADER: usize = REFUSALS + 8 * COUNT;
+
+// An answer is a refusal's number, or 0, and its place. The values follow.
+pub const NUMBER: usize = 0;
+
+pub const PLACE: usize = 1;
+
+pub const VALUES: usize = 9;
+
+// The answer to a header or a frame: 14 fields, PduLength, CRC13, CRC5 and the flips. In a reply of `sheets` the sheet follows it.
+pub const SHEET_AFTER: usize = VALUES + 14 + 2 + 2 + 1 + 4;
+
+// What repair makes of a number: whether there is a word, the word, the flips.
+pub const REPAIRED: usize = 1 + 2 + 4;
+
+// The size of a record, and that of its reply.
+pub struct Sizes(pub usize, pub usize);
+
+// Both are 0 where the byte is no kind.
+pub fn sizes_of(kind: u8) -> Sizes
+    ensures { λ r. do ⌜ r .0 ≤ (← ⟦RECORD_BYTES⟧ .entry) ⌝ }
+    ensures { λ r. do ⌜ r .1 ≤ (← ⟦REPLY_BYTES⟧ .entry) ⌝ }
+{
+    match kind {
+        WORDS => Sizes(2, 2 + 2 * REPAIRED),
+        ENCODE => Sizes(1, 1 + 2),
+        CRC13 => Sizes(RECORD_BYTES, 2 + 2),
+        CRC5 => Sizes(65, 1),
+        HEADERS => Sizes(FRAMES_RULE, SHEET_AFTER),
+        WRITES => Sizes(WRITES_RULE + RULE, REPLY_BYTES),
+        FRAMES => Sizes(FRAMES_RULE + RULE, SHEET_AFTER),
+        PAGES => Sizes(
+            LENGTH + PAGE_ROOM,
+            VALUES + 4 + 2 + 1 + 2 + 6 + 2 + 4 + 17 * 2 + 8 + 8,
+        ),
+        ROWS => Sizes(ROWS_ROOM + 2, VALUES + 2 + USER_ROOM),
+        SHOWN => Sizes(RAW + 2, VALUES + 8),
+        SHEETS => Sizes(SHEETS_RULE + RULE, SHEET_AFTER + SHEETS_HEADER),
+        _ => Sizes(0, 0),
+    }
+}

@@ -1,0 +1,73 @@
+// Words and checksums.
+use crate::layout;
+use crate::layout::Record;
+use crate::layout::Reply;
+use crate::numbers;
+use word::Repaired;
+ghost use mathlib.Core.Path.{_≡_};
+ghost use Prim.Native.Nat.{_+_, _<_, _≤_, _^_};
+
+// Puts what repair makes of a number, and leaves zeros where it is beyond repair.
+fn put_repaired(reply: &mut Reply, at: usize, repaired: Repaired) -> usize
+    requires { do ⌜ at + (← ⟦layout::REPAIRED⟧) ≤ (← ⟦layout::REPLY_BYTES⟧) ⌝ }
+    ensures { λ r. do ⌜ r ≡ at + (← ⟦layout::REPAIRED⟧ .entry) ⌝ }
+{
+    match repaired {
+        Repaired::Word { word, flips } => {
+            let next = numbers::put_byte(reply, at, 1);
+            let next = numbers::put_two(reply, next, word);
+            numbers::put_four(reply, next, flips)
+        }
+        Repaired::Beyond => at + layout::REPAIRED,
+    }
+}
+
+// The number, and what the table makes of it and what the search makes of it.
+pub fn word_reply(record: &Record, reply: &mut Reply) {
+    let number = numbers::two_at(record, 0) as u16;
+    let next = numbers::put_two(reply, 0, number);
+    let next = put_repaired(reply, next, word::repair(number));
+    put_repaired(reply, next, word::search(number));
+}
+
+// Of the data the lowest five bits count; no record of the independent program has more.
+pub fn encode_reply(record: &Record, reply: &mut Reply) {
+    let data = record[0] % 32;
+    let next = numbers::put_byte(reply, 0, data);
+    numbers::put_two(reply, next, word::encode(data as u16));
+}
+
+pub fn crc13_reply(record: &Record, reply: &mut Reply) {
+    let payload = numbers::sized(record, layout::PAYLOAD_ROOM);
+    let next = numbers::put_two(reply, 0, payload.len() as u16);
+    numbers::put_two(reply, next, crc::crc13(payload));
+}
+
+// Five bits, the first in the highest place.
+fn five_at(record: &Record, at: usize) -> u64
+    requires { do ⌜ at + 5 ≤ (← ⟦layout::RECORD_BYTES⟧) ⌝ }
+    ensures { λ r. ⌜ r < 2 ^ 5 ⌝ }
+{
+    numbers::wide(record[at]) % 2 * 16
+        + numbers::wide(record[at + 1]) % 2 * 8
+        + numbers::wide(record[at + 2]) % 2 * 4
+        + numbers::wide(record[at + 3]) % 2 * 2
+        + numbers::wide(record[at + 4]) % 2
+}
+
+// Fifteen bits.
+fn fifteen_at(record: &Record, at: usize) -> u64
+    requires { do ⌜ at + 15 ≤ (← ⟦layout::RECORD_BYTES⟧) ⌝ }
+    ensures { λ r. ⌜ r < 2 ^ 15 ⌝ }
+{
+    five_at(record, at) * 0x400 + five_at(record, at + 5) * 0x20 + five_at(record, at + 10)
+}
+
+// Header bits 0 to 29, and 30 to 64 with five zeros in the place of CRC5.
+pub fn crc5_reply(record: &Record, reply: &mut Reply) {
+    let hi = fifteen_at(record, 0) * 0x8000 + fifteen_at(record, 15);
+    let lo = fifteen_at(record, 30) * 0x200_0000
+        + fifteen_at(record, 45) * 0x400
+        + five_at(record, 60) * 0x20;
+    reply[0] = crc::crc5(hi, lo);
+}
