@@ -3,17 +3,18 @@
 -- Assumes nothing.
 use mathlib.Core.Path.{_≡_, refl, sym, ap, ap₂, _∙_}
 use mathlib.Core.Bool.{cond}
-use mathlib.Core.List.{List, [], _∷_, zipWith}
+use mathlib.Core.List.{List, [], _∷_, map, zipWith}
 use Prim.Native.Nat.{ℕ, zero, suc, _+_, _-_, _*_, _/_, _%_, _^_, _<_}
-use native.Mathlib.Nat.{zero-mul, one-mul, add-zero, mod-eq-of-lt, lt-of-lt-of-le}
+use native.Mathlib.Nat.{zero-mul, one-mul, add-zero, mod-lt, mod-eq-of-lt, lt-of-lt-of-le}
 use native.Mathlib.Omega.{arith}
 use lib.Bits.{bitXor, xor-zero-r, xor-shr, xor-mod, xor-lt, xor-block}
 use lib.Dec.{eqb, lit<}
 use lib.ListN.{length}
 use lib.Pow.{pow-mono, shr-lt}
-use Rattle.base.specs.Lists.{AreBits}
+use Rattle.base.specs.Lists.{AreBits, count, tabulate}
+use Rattle.base.proofs.Tabulate.{tabulate-length, tabulate-same, tabulate-all}
 use Rattle.base.proofs.Xor.{xor-four, xor-bit-times}
-use Rattle.crc.specs.Crc.{crcStep, crcOf}
+use Rattle.crc.specs.Crc.{bitsOf, crcStep, crcOf}
 use Rattle.crc.proofs.Width.{step-lt}
 
 -- doubling, multiplying by a bit: sums stay sums
@@ -33,6 +34,24 @@ by-sum p m (suc zero) (suc zero) ha hb = rw (zero-mul, xor-zero-r)
 by-sum p m zero (suc (suc b)) ha hb = absurd (omega arith)
 by-sum p m (suc zero) (suc (suc b)) ha hb = absurd (omega arith)
 by-sum p m (suc (suc a)) b ha hb = absurd (omega arith)
+
+-- lists made by two rules, added
+zip-map : (f g : ℕ → ℕ) (l : List ℕ) → zipWith bitXor (map f l) (map g l) ≡ map (λ k. bitXor (f k) (g k)) l
+unfolding zipWith
+zip-map f g [] = refl
+zip-map f g (k ∷ l) = ap (λ (m : List ℕ). bitXor (f k) (g k) ∷ m) (zip-map f g l)
+
+-- the n bits of a number; those of a sum are the sums of the bits
+module _ (n a : ℕ) where
+  are-bits : AreBits (bitsOf n a)
+  are-bits = tabulate-all (λ x. x < 2) (λ t. a / 2 ^ (n - 1 - t) % 2) n (lit< tt) (λ t h. mod-lt (a / 2 ^ (n - 1 - t)) (lit< tt))
+
+  sum-bits : (b : ℕ) → zipWith bitXor (bitsOf n a) (bitsOf n b) ≡ bitsOf n (bitXor a b)
+  unfolding tabulate
+  sum-bits b =
+      zip-map (λ t. a / 2 ^ (n - 1 - t) % 2) (λ t. b / 2 ^ (n - 1 - t) % 2) (count n 0)
+      ∙ tabulate-same (λ t. bitXor (a / 2 ^ (n - 1 - t) % 2) (b / 2 ^ (n - 1 - t) % 2)) (λ t. bitXor a b / 2 ^ (n - 1 - t) % 2) n
+      (λ t h. sym (ap (λ (x : ℕ). x % 2) (xor-shr a b (n - 1 - t)) ∙ xor-mod (a / 2 ^ (n - 1 - t)) (b / 2 ^ (n - 1 - t)) 1))
 
 module _ (w p : ℕ) where
   -- the top bit, and the others one higher
@@ -82,3 +101,10 @@ module _ (w p : ℕ) where
       ap (λ (s : ℕ). crcOf w p s (zipWith bitXor xs ys)) (step-linear c d x y hc hd (bx 0) (by 0))
       ∙ crc-linear fits xs ys (omega arith) (λ k. bx (suc k)) (λ k. by (suc k)) (crcStep w p c x) (crcStep w p d y)
       (step-lt w p fits c x) (step-lt w p fits d y)
+
+  -- the n bits of two numbers
+  pub number-linear : p < 2 ^ w → (n a b c d : ℕ) → c < 2 ^ w → d < 2 ^ w
+      → crcOf w p (bitXor c d) (bitsOf n (bitXor a b)) ≡ bitXor (crcOf w p c (bitsOf n a)) (crcOf w p d (bitsOf n b))
+  number-linear fits n a b c d hc hd =
+      ap (crcOf w p (bitXor c d)) (sym (sum-bits n a b))
+      ∙ crc-linear fits (bitsOf n a) (bitsOf n b) (tabulate-length _ n ∙ sym (tabulate-length _ n)) (are-bits n a) (are-bits n b) c d hc hd

@@ -2,9 +2,11 @@
 -- Assumes nothing.
 use mathlib.Core.Path.{_≡_, refl, sym, _∙_}
 use mathlib.Core.List.{List, [], _∷_, _++_, foldl, foldl-append, flatMap, reverse}
-use Prim.Native.Nat.{ℕ, _≤_}
+use Prim.Native.Nat.{ℕ, _^_, _≤_, _<_}
+use lib.ListN.{drop}
 use Rattle.base.proofs.Fold.{Downward, down-ends}
-use Rattle.crc.specs.Crc.{crcStep, crcOf, bitsOf, bitsOfBytes}
+use Rattle.crc.specs.Crc.{byteBits, bitsOf, bitsOfBytes, crcStep, crcOf}
+use Rattle.crc.proofs.Width.{crc-lt}
 
 module _ (w p : ℕ) where
   -- two messages, one after the other
@@ -13,15 +15,20 @@ module _ (w p : ℕ) where
 
   -- a byte into a checksum
   abbrev pub crcByte : ℕ → ℕ → ℕ
-  crcByte crc byte = crcOf w p crc (bitsOf 8 byte)
+  crcByte crc byte = crcOf w p crc (bitsOf byteBits byte)
 
   -- byte by byte is bit by bit
   pub by-bytes : (start : ℕ) (bytes : List ℕ) → foldl crcByte start bytes ≡ crcOf w p start (bitsOfBytes bytes)
   unfolding flatMap
   by-bytes start [] = refl
-  by-bytes start (b ∷ bs) = by-bytes (crcByte start b) bs ∙ sym (crc-append start (bitsOf 8 b) (bitsOfBytes bs))
+  by-bytes start (b ∷ bs) = by-bytes (crcByte start b) bs ∙ sym (crc-append start (bitsOf byteBits b) (bitsOfBytes bs))
 
   -- the loop from the last byte to the first has them all in
   pub down-bytes : (start : ℕ) (bytes : List ℕ) (i crc : ℕ) → Downward crcByte start bytes i crc → i ≤ 0
       → crc ≡ crcOf w p start (bitsOfBytes (reverse bytes))
   down-bytes start bytes i crc so h = down-ends crcByte start bytes i crc so h ∙ by-bytes start (reverse bytes)
+
+  -- and its state is within the width all the way
+  pub down-lt : p < 2 ^ w → (start : ℕ) → start < 2 ^ w → (bytes : List ℕ) (i crc : ℕ) → Downward crcByte start bytes i crc → crc < 2 ^ w
+  down-lt fits start h bytes i crc so =
+      rw (so .done, by-bytes start (reverse (drop i bytes))) (crc-lt w p fits start (bitsOfBytes (reverse (drop i bytes))) h)

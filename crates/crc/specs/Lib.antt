@@ -1,3 +1,4 @@
 pub mod Crc
 pub mod Crc5
 pub mod Halves
+pub mod Steps

@@ -1,25 +1,27 @@
-// Checksums, bit by bit: CRC13 of a payload and CRC5 of a header.
+// Checksums: CRC13 of a payload, byte by byte, and CRC5 of a header, bit by bit.
 ghost use mathlib.Core.Path.{_≡_};
 ghost use Prim.Native.Nat.{_+_, _*_, _<_, _^_};
 ghost use Rattle.crc.specs.Crc.{crcStep, crcOf, byteBits, bitsOf, poly13, crc13Of};
 ghost use Rattle.crc.specs.Crc5.{poly5, countedFlown, crc5Over, crc5Of};
 ghost use Rattle.crc.specs.Halves.{hiWidth, loWidth, headerBits};
+ghost use Rattle.crc.specs.Steps.{steps13};
+
+mod steps;
 
 const BYTE_BITS: u8 = 8;
 
-// CRC13. The polynomial's x^13 is implied.
-const POLY13: u16 = 0x1CF5;
-
+// CRC13. Its polynomial is in the table of steps.
 const START13: u16 = 0x1FFF;
 
-// The weight of its top bit.
-const TOP13: u16 = 0x1000;
+// Below its eight highest bits stand five: 2^5.
+const LOW13: u16 = 0x20;
 
 // CRC5. The polynomial's x^5 is implied.
 const POLY5: u8 = 0x15;
 
 const START5: u8 = 0x1F;
 
+// The weight of its top bit.
 const TOP5: u8 = 0x10;
 
 // What follows header bit 64.
@@ -30,44 +32,41 @@ const BIT_31: u64 = 0x40_0000_0000;
 
 const BIT_35: u64 = 0x4_0000_0000;
 
-// One bit. Each width has a step and a byte of its own: with width and polynomial as parameters they take three times as long.
-fn step13(crc: u16, bit: u8) -> u16
-    ensures { λ r. ⌜ r ≡ crcStep 13 poly13 crc bit ⌝ }
-{
-    let moved = crc % TOP13 * 2;
-    if crc / TOP13 != bit as u16 {
-        return moved ^ POLY13;
-    }
-    moved
-}
-
-// A byte, its most significant bit first.
-fn byte13(crc: u16, byte: u8) -> u16
+// A byte by a lent copy of the table: the eight highest bits and the byte choose the step, and the bits below move up.
+fn byte13_in(steps: &[u16; 256], crc: u16, byte: u8) -> u16
+    requires { ⌜ now steps ≡ steps13 ⌝ }
+    requires { ⌜ crc < 2 ^ 13 ⌝ }
     ensures { λ r. ⌜ r ≡ crcOf 13 poly13 crc (bitsOf byteBits byte) ⌝ }
 {
-    let mut state = crc;
-    let mut t: u8 = 0;
-    while t < BYTE_BITS {
-        state = step13(state, (byte >> (BYTE_BITS - 1 - t)) % 2);
-        t += 1;
-    }
-    state
+    let top = (crc / LOW13) as u8;
+    steps::step_in(steps, top ^ byte) ^ (crc % LOW13 * 0x100)
 }
 
-// CRC13 of a payload of any length, from its last byte to its first.
-pub fn crc13(payload: &[u8]) -> u16
+// CRC13 by a lent copy of the table.
+fn crc13_in(steps: &[u16; 256], payload: &[u8]) -> u16
+    requires { ⌜ now steps ≡ steps13 ⌝ }
     ensures { λ r. ⌜ r ≡ crc13Of (now (payload .entry)) ⌝ }
 {
     let mut crc = START13;
     let mut i = payload.len();
     while 0 < i {
-        crc = byte13(crc, payload[i - 1]);
+        crc = byte13_in(steps, crc, payload[i - 1]);
         i -= 1;
     }
     crc
 }
 
-// One bit and one byte of CRC5.
+// CRC13 of a payload of any length, from its last byte to its first. The constant table is stored anew at each use, so it is copied
+// once and lent.
+pub fn crc13(payload: &[u8]) -> u16
+    ensures { λ r. ⌜ r ≡ crc13Of (now (payload .entry)) ⌝ }
+{
+    let copy = steps::whole();
+    crc13_in(&copy, payload)
+}
+
+// One bit and one byte of CRC5, the most significant bit first. Both are for this width alone: with width and polynomial as
+// parameters they take three times as long.
 fn step5(crc: u8, bit: u8) -> u8
     ensures { λ r. ⌜ r ≡ crcStep 5 poly5 crc bit ⌝ }
 {

@@ -1,0 +1,17 @@
+-- The steps by which a byte goes into a checksum at once, in place of its eight bits one after the other.
+-- Assumes nothing.
+use mathlib.Core.List.{List}
+use Prim.Native.Nat.{ℕ}
+use Rattle.base.specs.Lists.{tabulate}
+use Rattle.crc.specs.Crc.{byteBits, bitsOf, crcOf, poly13}
+
+-- the step of a byte: what its eight bits make of a checksum of 0
+unfoldable pub stepOf : ℕ → ℕ → ℕ → ℕ
+stepOf width poly byte = crcOf width poly 0 (bitsOf byteBits byte)
+
+-- "a table of 256 steps"
+unfoldable pub stepsOf : ℕ → ℕ → List ℕ
+stepsOf width poly = tabulate 256 (stepOf width poly)
+
+abbrev pub steps13 : List ℕ
+steps13 = stepsOf 13 poly13
