@@ -1,21 +1,21 @@
 -- The program's turns: the buffers keep their lengths, and there is room to read on.
 -- Assumes nothing.
 use mathlib.Core.Path.{_≡_, refl, sym, _∙_}
-use mathlib.Core.Bool.{Bool, true, false}
+use mathlib.Core.Bool.{Bool, true, false, false≢true}
 use mathlib.Core.List.{List}
 use Prim.Native.Nat.{ℕ, _<_, _≤_}
 use native.Mathlib.Omega.{arith}
-use lib.ListN.{length}
+use lib.ListN.{length, take}
 use Rattle.air.specs.Air.{payloadLimit}
 use Rattle.sheet.specs.declared.Sheet.{Sheet}
 use Rattle.listing.specs.declared.Listed.{Listed}
 use Rattle.record.specs.Records.{recordSize}
-use Rattle.listing.specs.Promises.{Scanned}
-use Rattle.listing.proofs.Keeping.{left-short}
+use Rattle.listing.specs.Promises.{Turns}
+use Rattle.listing.proofs.Keeping.{left-inside, left-short}
 use Rattle.list.specs.declared.Next.{Next}
 use Rattle.list.specs.declared.Next.the-variants.{More, Done, Failed}
 use Rattle.list.specs.declared.State.{State}
-use Rattle.list.specs.Turns.{onwardOf, Turned}
+use Rattle.list.specs.Turns.{readOn, onwardOf, Turned}
 
 done-more : Done ≡ More → ⊥
 done-more e = let z : _≡_ {A = ℕ} 0 1 = cc in omega arith
@@ -23,21 +23,31 @@ done-more e = let z : _≡_ {A = ℕ} 0 1 = cc in omega arith
 failed-more : Failed ≡ More → ⊥
 failed-more e = let z : _≡_ {A = ℕ} 0 1 = cc in omega arith
 
+-- where the lines were written, the read decides
+pub read-decides : (read : Next) (over wrote : Bool) → wrote ≡ true → (r : Next) → r ≡ readOn read over → r ≡ onwardOf read over wrote
+read-decides read over true is r e = e
+read-decides read over false is r e = absurd (false≢true is)
+
 -- more is read only where the listing is not over
-more-open : (read : Next) (over : Bool) → onwardOf read over ≡ More → over ≡ false
-more-open read false e = refl
-more-open More true e = absurd (done-more e)
-more-open Done true e = absurd (done-more e)
-more-open Failed true e = absurd (failed-more e)
+more-open : (read : Next) (over wrote : Bool) → onwardOf read over wrote ≡ More → over ≡ false
+more-open read false wrote e = refl
+more-open read true false e = absurd (failed-more e)
+more-open More true true e = absurd (done-more e)
+more-open Done true true e = absurd (done-more e)
+more-open Failed true true e = absurd (failed-more e)
 
--- a turn that fails, and one that does not
-pub turn-fails : (sheet : Sheet) (kept : ℕ) → Turned (record { sheet = sheet; kept = kept; next = Failed })
-turn-fails sheet kept = record { short = λ e. absurd (failed-more e) }
+-- what is left of the bytes read is within them, and what a turn leaves
+module _ (sheet : Sheet) (buf : List ℕ) (end : ℕ) (in-buf : end ≤ length buf) (out buf′ out′ : List ℕ) (r : Listed) (so : Turns sheet buf end out buf′ out′ r) where
+  pub left-in-read : r .left ≤ end
+  left-in-read = left-inside sheet buf end in-buf out out′ r (so .listed)
 
-pub turn-goes-on : (sheet : Sheet) (l before : List ℕ) (at : ℕ) (after : List ℕ) (r : Listed) → Scanned sheet l before at after r
-    → (read next : Next) → next ≡ onwardOf read (r .over) → Turned (record { sheet = r .sheet; kept = r .left; next = next })
-turn-goes-on sheet l before at after r so read next is =
-    record { short = λ e. left-short sheet l before at after r so (more-open read (r .over) (sym is ∙ e)) }
+  pub turn-leaves : (front : ℕ) (read next : Next) (wrote : Bool) → next ≡ onwardOf read (r .over) wrote
+      → Turned buf (record { sheet = r .sheet; front = front; kept = r .left; next = next })
+  turn-leaves front read next wrote is =
+      record {
+        inside = omega (arith, left-in-read);
+        short = λ e. left-short sheet (take end buf) out 0 out′ r (so .listed) (more-open read (r .over) wrote (sym is ∙ e));
+      }
 
 -- what holds at each turn
 pub record Ready (buf₀ out₀ buf out : List ℕ) (kept : ℕ) : Type 0 where
@@ -50,13 +60,15 @@ pub record Ready (buf₀ out₀ buf out : List ℕ) (kept : ℕ) : Type 0 where
 pub starts : (buf out : List ℕ) → recordSize payloadLimit ≤ length buf → length buf ≤ length out → Ready buf out buf out 0
 starts buf out least room = record { least = least; room = room; input = refl; output = refl; short = omega arith }
 
-pub goes-on : (buf₀ out₀ buf out : List ℕ) (kept : ℕ) → Ready buf₀ out₀ buf out kept → (buf′ out′ : List ℕ) (r : State)
-    → Turned r → r .next ≡ More → length buf′ ≡ length buf → length out′ ≡ length out → Ready buf₀ out₀ buf′ out′ (r .kept)
-goes-on buf₀ out₀ buf out kept so buf′ out′ r turned more input output =
+-- a read and a turn later: the buffer after the read is `read`
+pub goes-on : (buf₀ out₀ buf out : List ℕ) (kept : ℕ) → Ready buf₀ out₀ buf out kept → (read buf′ out′ : List ℕ) (r : State)
+    → Turned read r → r .next ≡ More → length read ≡ length buf → length buf′ ≡ length read → length out′ ≡ length out
+    → Ready buf₀ out₀ buf′ out′ (r .kept)
+goes-on buf₀ out₀ buf out kept so read buf′ out′ r turned more same input output =
     record {
       least = so .least;
       room = so .room;
-      input = input ∙ so .input;
+      input = input ∙ same ∙ so .input;
       output = output ∙ so .output;
       short = turned .short more;
     }

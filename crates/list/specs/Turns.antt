@@ -2,7 +2,9 @@
 -- Assumes nothing.
 use mathlib.Core.Path.{_≡_}
 use mathlib.Core.Bool.{Bool, cond}
-use Prim.Native.Nat.{_<_}
+use mathlib.Core.List.{List}
+use Prim.Native.Nat.{ℕ, _<_, _≤_}
+use lib.ListN.{length}
 use Rattle.air.specs.Air.{payloadLimit}
 use Rattle.record.specs.Records.{recordSize}
 use Rattle.list.specs.declared.Next.{Next}
@@ -10,11 +12,16 @@ use Rattle.list.specs.declared.Next.the-variants.{More, Done, Failed}
 use Rattle.list.specs.declared.State.{State}
 
 -- how to go on after a read: where the listing is over, nothing more is read
-abbrev pub onwardOf : Next → Bool → Next
-onwardOf More over = cond over Done More
-onwardOf Done over = Done
-onwardOf Failed over = Failed
+abbrev pub readOn : Next → Bool → Next
+readOn More over = cond over Done More
+readOn Done over = Done
+readOn Failed over = Failed
 
--- where there is more to read, less than a record is kept, so that the buffer has room
-pub record Turned (r : State) : Type 0 where
+-- and after the write that follows it
+abbrev pub onwardOf : Next → Bool → Bool → Next
+onwardOf read over wrote = cond wrote (readOn read over) Failed
+
+-- what a turn keeps is within the buffer; where there is more to read, it is less than a record, so that the buffer has room
+pub record Turned (buf : List ℕ) (r : State) : Type 0 where
+  pub inside : r .kept ≤ length buf
   pub short : r .next ≡ More → r .kept < recordSize payloadLimit

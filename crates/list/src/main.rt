@@ -1,6 +1,9 @@
-// Lists the records on standard input. It moves bytes and does nothing else: the text is `listing`'s.
+// Scanned the records on standard input, after each read. It moves bytes and does nothing else: the text is `listing`'s.
+// Started with a word after its name, it also tells on standard error where and why a listing was cut.
+use libc::STDERR_FILENO;
 use libc::STDIN_FILENO;
 use libc::STDOUT_FILENO;
+use record::Cut;
 use sheet::Sheet;
 use word::table::TABLE_ROWS;
 ghost use mathlib.Core.Path.{_≡_};
@@ -10,7 +13,7 @@ ghost use Rattle.word.specs.Repairs.{syndromes};
 ghost use Rattle.air.specs.Air.{payloadLimit};
 ghost use Rattle.record.specs.Records.{recordSize};
 ghost use Rattle.lines.specs.Rooms.{lineRoom};
-ghost use Rattle.list.specs.Turns.{onwardOf, Turned};
+ghost use Rattle.list.specs.Turns.{readOn, onwardOf, Turned};
 
 // How to go on.
 enum Next {
@@ -28,40 +31,37 @@ struct Filled {
     next: Next,
 }
 
-// What a turn leaves: the sheet so far, and how many bytes at the buffer's front are kept.
+// What a turn leaves: the sheet so far, the place in the input of the buffer's front, and how many bytes are kept there.
 struct State {
     sheet: Sheet,
+    front: u64,
     kept: usize,
     next: Next,
 }
 
-// Reads on after the bytes that were kept, until the buffer is full. A failed read is told.
-fn fill(buf: &mut [u8], kept: usize) -> Filled
+// Reads once, after the bytes that were kept: a pass that is still on is listed as far as it has come. A failed read is told.
+fn read_on(buf: &mut [u8], kept: usize) -> Filled
     requires { ⌜ kept < length (now buf) ⌝ }
     ensures { λ r. ⌜ r .end ≤ length (now (buf .entry)) ⌝ }
 {
-    let mut end = kept;
-    while end < buf.len() {
-        let part = &mut buf[end..];
-        let got = libc::read(STDIN_FILENO, part);
-        if got < 0 {
-            os::fail(b"read");
-            return Filled {
-                end,
-                next: Next::Failed,
-            };
-        }
-        let n = io::count(got, part);
-        if n == 0 {
-            return Filled {
-                end,
-                next: Next::Done,
-            };
-        }
-        end += n;
+    let part = &mut buf[kept..];
+    let got = libc::read(STDIN_FILENO, part);
+    if got < 0 {
+        os::fail(b"read");
+        return Filled {
+            end: kept,
+            next: Next::Failed,
+        };
+    }
+    let n = io::count(got, part);
+    if n == 0 {
+        return Filled {
+            end: kept,
+            next: Next::Done,
+        };
     }
     Filled {
-        end,
+        end: kept + n,
         next: Next::More,
     }
 }
@@ -77,7 +77,7 @@ fn write(text: &[u8]) -> bool {
 
 // How to go on after a read, where the listing may be over. A failed read stays one.
 fn after_read(read: Next, over: bool) -> Next
-    ensures { λ r. ⌜ r ≡ onwardOf read over ⌝ }
+    ensures { λ r. ⌜ r ≡ readOn read over ⌝ }
 {
     match read {
         Next::More => {
@@ -91,66 +91,98 @@ fn after_read(read: Next, over: bool) -> Next
     }
 }
 
-// Fills the buffer and writes the lines of its records.
+// And after the write that followed it.
+fn after_write(read: Next, over: bool, wrote: bool) -> Next
+    ensures { λ r. ⌜ r ≡ onwardOf read over wrote ⌝ }
+{
+    if wrote {
+        return after_read(read, over);
+    }
+    Next::Failed
+}
+
+// Scanned what was read, and writes the lines. A place past 2^64, which no input reaches, would wrap.
 fn turn(
     table: &[u16; TABLE_ROWS],
     sheet: Sheet,
-    kept: usize,
+    front: u64,
+    filled: Filled,
     buf: &mut [u8],
     out: &mut [u8],
 ) -> State
     requires { ⌜ now table ≡ syndromes ⌝ }
-    requires { ⌜ kept < length (now buf) ⌝ }
+    requires { ⌜ filled .end ≤ length (now buf) ⌝ }
     requires { ⌜ length (now buf) ≤ length (now out) ⌝ }
-    ensures { λ r. ⌜ Turned r ⌝ }
+    ensures { λ r. ⌜ Turned (now (buf .entry)) r ⌝ }
 {
-    let filled = fill(buf, kept);
     let end = filled.end;
     let listed = listing::list_piece(table, sheet, buf, end, out);
-    let to = listed.to;
-    let after = listed.sheet;
     let left = listed.left;
-    if !write(&out[..to]) {
-        return State {
-            sheet: after,
-            kept: left,
-            next: Next::Failed,
-        };
-    }
+    let passed = (end - left) as u64;
+    let to = listed.to;
+    let wrote = write(&out[..to]);
     let read = filled.next;
-    let next = after_read(read, listed.over);
+    let next = after_write(read, listed.over, wrote);
+    let after = listed.sheet;
     State {
         sheet: after,
+        front: std::num::wrapping_add_u64(front, passed),
         kept: left,
         next,
     }
 }
 
-// Writes the last line, after `cut` where bytes are left.
-fn finish(out: &mut [u8], sheet: Sheet, left: usize)
-    requires { ⌜ 2 * lineRoom ≤ length (now out) ⌝ }
-{
-    let n = lines::put_closing(out, 0, sheet, 0 < left);
-    write(&out[..n]);
+// Tells where and why the listing is cut: what is left stands at that place, and a whole record is one that the sheet does not take.
+fn tell_cut(left: &[u8], place: u64) {
+    io::write_all(STDERR_FILENO, b"cut at byte ");
+    io::print_decimal(STDERR_FILENO, place);
+    match record::next_record(left) {
+        Cut::Record { .. } => {
+            io::write_all(STDERR_FILENO, b": the sheet is full\n");
+        }
+        Cut::TooLong => {
+            io::write_all(STDERR_FILENO, b": the length there is over 1,023\n");
+        }
+        Cut::Short => {
+            io::write_all(STDERR_FILENO, b": too few bytes for a record\n");
+        }
+    }
 }
 
-// Lists the input, a buffer at a time. Where a read fails, the lines up to there are written, and no last line.
-// The turns are counted down from a number that no run uses up: a full buffer holds a record, and a sheet takes 65,535.
-fn list(table: &[u16; TABLE_ROWS], buf: &mut [u8], out: &mut [u8])
+// Writes the last line, after `cut` where bytes are left, which stand at the buffer's front.
+fn finish(strict: bool, end: State, buf: &[u8], out: &mut [u8])
+    requires { ⌜ end .kept ≤ length (now buf) ⌝ }
+    requires { ⌜ 2 * lineRoom ≤ length (now out) ⌝ }
+{
+    let left = end.kept;
+    let n = lines::put_closing(out, 0, end.sheet, 0 < left);
+    if !write(&out[..n]) {
+        return;
+    }
+    if strict && 0 < left {
+        tell_cut(&buf[..left], end.front);
+    }
+}
+
+// Scanned the input, read by read. Where a read fails, the lines up to there are written, and no last line.
+// The turns are counted down from a number that no run uses up: each but the last reads a byte.
+fn list(table: &[u16; TABLE_ROWS], strict: bool, buf: &mut [u8], out: &mut [u8])
     requires { ⌜ now table ≡ syndromes ⌝ }
     requires { ⌜ recordSize payloadLimit ≤ length (now buf) ⌝ }
     requires { ⌜ length (now buf) ≤ length (now out) ⌝ }
 {
     let mut sheet = sheet::new_sheet();
+    let mut front = 0;
     let mut kept = 0;
     let mut turns = u64::MAX;
     while turns > 0 {
-        let done = turn(table, sheet, kept, buf, out);
+        let filled = read_on(buf, kept);
+        let done = turn(table, sheet, front, filled, buf, out);
         let next = done.next;
         match next {
             Next::More => {}
             Next::Done => {
-                finish(out, done.sheet, done.kept);
+                finish(strict, done, buf, out);
                 return;
             }
             Next::Failed => {
@@ -158,17 +190,20 @@ fn list(table: &[u16; TABLE_ROWS], buf: &mut [u8], out: &mut [u8])
             }
         }
         sheet = done.sheet;
+        front = done.front;
         kept = done.kept;
         turns -= 1;
     }
 }
 
 fn main() {
+    // the front end's one word is --strict
+    let strict = 1 < os::arg_count();
     let table = word::table::whole();
     let mut buf = io::large_buffer();
     let mut out = io::large_buffer();
     let n = lines::put_title(&mut out);
     if write(&out[..n]) {
-        list(&table, &mut buf, &mut out);
+        list(&table, strict, &mut buf, &mut out);
     }
 }

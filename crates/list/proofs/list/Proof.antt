@@ -7,16 +7,19 @@ use Rattle.list.proofs.list.Statement.{statement}
 use Rattle.list.proofs.list.Tie as tie
 
 abbrev Inv-loop : tie.InvT-loop
-Inv-loop table buf₀ out₀ sheet₀ kept₀ turns₀ buf out sheet kept turns = Ready buf₀ out₀ buf out kept
+Inv-loop table strict buf₀ out₀ sheet₀ front₀ kept₀ turns₀ buf out sheet front kept turns = Ready buf₀ out₀ buf out kept
 
 abbrev μ-loop : tie.MeasureT-loop
-μ-loop table buf₀ out₀ sheet₀ kept₀ turns₀ buf out sheet kept turns = turns
+μ-loop table strict buf₀ out₀ sheet₀ front₀ kept₀ turns₀ buf out sheet front kept turns = turns
 
 new-sheet-requires : tie.Need-new-sheet-requires Inv-loop μ-loop
 new-sheet-requires c κs = search needs
 
 loop-holds : tie.Need-loop-holds Inv-loop μ-loop
 loop-holds c = search (needs, starts)
+
+read-on-requires : tie.Need-read-on-requires Inv-loop μ-loop
+read-on-requires c κs = search needs
 
 turn-requires : tie.Need-turn-requires Inv-loop μ-loop
 turn-requires c κs = search needs
@@ -77,6 +80,7 @@ list-spec =
     μ-loop
     new-sheet-requires
     loop-holds
+    read-on-requires
     turn-requires
     enum-told
     enum-told-2

@@ -5,6 +5,9 @@ use Rattle.listing.proofs.Keeping.{put-size}
 use Rattle.list.proofs.main.Statement.{statement}
 use Rattle.list.proofs.main.Tie as tie
 
+arg-count-requires : tie.Need-arg-count-requires
+arg-count-requires c κs = search needs
+
 whole-requires : tie.Need-whole-requires
 whole-requires c κs = search needs
 
@@ -48,6 +51,7 @@ pub main-spec : {M : Type 1} → statement M
 main-spec =
     tie.close
     (tie.spec
+    arg-count-requires
     whole-requires
     large-buffer-requires
     large-buffer-requires-2

@@ -1,0 +1,133 @@
+"""The front end: builds what a command needs on first use, and runs it. See README.md.
+
+Status 0; 1 where a read or a write failed, a replay found a difference, or a strict listing was cut; 2 where a command or a
+file cannot be used. Ended by a signal, it ends by that signal.
+"""
+
+import os
+import signal
+import sys
+
+import leftovers
+import usage
+from messages import DONE, FAILED, UNUSABLE, Failed, Unusable, end_by, hold_standard_descriptors, reason, say, tell
+from options import Help, taken, whole_number
+
+# What only some commands need is imported where it is used, so that the others start at once.
+TOP = os.path.dirname(os.path.dirname(os.path.realpath(__file__)))
+
+
+def list_words():
+    """The words that run `list`, built where needed."""
+    import builds
+
+    program = builds.list_program(TOP)
+    builds.ready(program)
+    return builds.words_for_list(program, os.uname().machine)
+
+
+def independent_binary():
+    """The independent program, built where needed."""
+    import builds
+
+    program = builds.independent_program(TOP)
+    builds.ready(program)
+    return program.binary
+
+
+def list_command(words):
+    import listing
+
+    options, files = taken(words, flags=("--names", "--strict"))
+    for name in files:
+        listing.check(name)
+    return listing.list_all(list_words(), files, "names" in options, "strict" in options)
+
+
+def explain_command(words):
+    import refusals
+
+    _, rest = taken(words)
+    if len(rest) > 2:
+        raise Unusable("explain takes a number and a place")
+    say(refusals.explain(refusals.read(TOP), *(whole_number(word) for word in rest)))
+    return DONE
+
+
+def replay_command(words):
+    import replay
+
+    season = replay.season_words(*taken(words, flags=replay.FLAGS, valued=replay.VALUED))
+    return replay.replay(list_words(), independent_binary(), season)
+
+
+def bench_command(words):
+    import bench
+
+    _, rest = taken(words)
+    if rest:
+        raise Unusable("bench takes no words")
+    run = list_words()
+    bench.bench(run, independent_binary(), emulated=len(run) > 1)
+    return DONE
+
+
+def help_command(words):
+    _, rest = taken(words)
+    if len(rest) > 1 or rest and rest[0] not in usage.COMMANDS:
+        raise Unusable(f"no such command: {' '.join(rest)}")
+    say(usage.COMMANDS[rest[0]] if rest else usage.ALL)
+    return DONE
+
+
+COMMANDS = {
+    "list": list_command,
+    "explain": explain_command,
+    "replay": replay_command,
+    "bench": bench_command,
+    "help": help_command,
+}
+
+
+def run(words):
+    """Runs a command; answers the status."""
+    command, words = (words[0], words[1:]) if words else ("", [])
+    if command in ("-h", "--help", "--version"):
+        if words:
+            raise Unusable(f"{command} takes no words")
+        if command == "--version":
+            import version
+
+            say(version.told(TOP))
+        else:
+            say(usage.ALL)
+        return DONE
+    if command not in COMMANDS:
+        raise Unusable(f"no such command: {command}\n{usage.ALL}" if command else f"no command\n{usage.ALL}")
+    try:
+        return COMMANDS[command](words)
+    except Help:
+        say(usage.COMMANDS[command])
+        return DONE
+
+
+def main():
+    hold_standard_descriptors()
+    leftovers.catch_signals()
+    try:
+        return run(sys.argv[1:])
+    except Unusable as error:
+        tell(error)
+        return UNUSABLE
+    except Failed as error:
+        tell(error)
+        return FAILED
+    except BrokenPipeError:
+        # whoever read the output has all that was wanted
+        return end_by(signal.SIGPIPE)
+    except OSError as error:
+        tell(f"{error.filename}: {reason(error)}" if error.filename else reason(error))
+        return FAILED
+
+
+sys.exit(main())

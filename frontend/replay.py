@@ -1,0 +1,90 @@
+"""The command `replay`: a season listed by this program and by the independent one, every line compared."""
+
+import itertools
+import os
+import re
+
+import leftovers
+from listing import list_one
+from messages import DONE, FAILED, Failed, Unusable, say
+from options import whole_number
+from running import run
+
+FLAGS = ("--clean", "--full", "--full-exact")
+VALUED = ("--payload", "--cut")
+CUTS = ("length", "lone", "header", "payload")
+LONGEST_PAYLOAD = 1023
+FULL_SHEET = 65535
+
+
+def season_words(options, rest):
+    """The words of a season, or what is wrong with them."""
+    if len(rest) != 2:
+        raise Unusable("replay takes a seed and a number of records")
+    words = [str(whole_number(word)) for word in rest]
+    if "full" in options and "full-exact" in options:
+        raise Unusable("--full and --full-exact exclude each other")
+    if options.get("cut", CUTS[0]) not in CUTS:
+        raise Unusable(f"--cut takes one of {', '.join(CUTS)}, not {options['cut']}")
+    if "payload" in options:
+        options = dict(options, payload=str(whole_number(options["payload"], LONGEST_PAYLOAD)))
+    for name, value in options.items():
+        words += [f"--{name}"] if value is True else [f"--{name}", value]
+    return words
+
+
+def made_by(independent, words, what, **files):
+    """Runs the independent program, which has to succeed."""
+    status, told = run([independent, *words], "the independent program", **files)
+    if status != 0 or told:
+        # without the program's own name, its stream and the number of the error
+        why = re.sub(r"^independent: (standard output: )?| \(os error \d+\)$", "", told[0]) if told else f"status {status}"
+        raise Failed(f"{what} failed: {why}")
+
+
+def replay(list_words, independent, season):
+    """Makes a season, lists it twice and compares; answers the status."""
+    with leftovers.folder() as room:
+        pass_, listed, expected = (os.path.join(room, name) for name in ("pass", "listed", "expected"))
+        with open(pass_, "wb") as out:
+            made_by(independent, ["season", *season], "making the season", stdout=out)
+        with open(pass_, "rb") as file, open(listed, "wb") as out:
+            if not list_one(list_words, "the season", file, strict=False, stdout=out):
+                return FAILED
+        with open(pass_, "rb") as file, open(expected, "wb") as out:
+            made_by(independent, ["list"], "the independent listing", stdin=file, stdout=out)
+        return compare(listed, expected, int(season[1]))
+
+
+def compare(listed, expected, wanted):
+    """Compares two listings line by line, and says what was compared."""
+    lines, last, cut = 0, "", False
+    with open(listed, errors="replace", encoding="ascii") as ours, open(expected, errors="replace", encoding="ascii") as theirs:
+        for lines, (line, other) in enumerate(itertools.zip_longest(ours, theirs, fillvalue=""), 1):
+            if line != other:
+                return differs(lines, line, other)
+            last, cut = line, cut or line == "cut\n"
+    heard = int(re.match(r"heard (\d+) ", last)[1])
+    say(f"{heard} records, {lines} lines compared, no difference{what_was_left(heard, cut, wanted)}\n")
+    return DONE
+
+
+def what_was_left(heard, cut, wanted):
+    """Where the listings were cut, why less was compared than the season has."""
+    if not cut:
+        return ""
+    if heard < FULL_SHEET:
+        return "; then both cut the listing"
+    of_all = f" of the {wanted} records" if wanted > heard else ""
+    return f"; a sheet takes {FULL_SHEET}{of_all}, and both cut the listing there"
+
+
+def differs(number, line, other):
+    """Says where two listings differ first. A listing's first line is its title, so line 2 is that of record 0."""
+    record = other.partition(" ")[0]
+    say(
+        f"first difference in line {number}{f' (record {record})' if record.isdigit() else ''}\n"
+        f"  nolbreva:    {line.rstrip() or '(no line)'}\n"
+        f"  independent: {other.rstrip() or '(no line)'}\n"
+    )
+    return FAILED

@@ -1,0 +1,58 @@
+"""What README.md quotes is what stands in the repository."""
+
+import os
+import re
+import unittest
+
+import refusals
+from tests.repository import TOP
+
+
+def read(*names):
+    with open(os.path.join(TOP, *names), encoding="utf-8") as file:
+        return file.read()
+
+
+def quoted(text):
+    """A text as a document shows it, set in by four spaces."""
+    return "".join(f"    {line}".rstrip() + "\n" for line in text.splitlines())
+
+
+class Readme(unittest.TestCase):
+    def setUp(self):
+        self.readme = read("README.md")
+
+    def test_the_example_crate(self):
+        self.assertIn(f"\n\n{quoted(read('crates', 'example', 'src', 'main.rt'))}\n", self.readme)
+        line = re.search(r"^example:[^#\n]*", read("crates.txt"), re.MULTILINE)[0].rstrip()
+        self.assertIn(f"\n\n{quoted(line)}\n", self.readme)
+
+    def test_the_example_listing(self):
+        self.assertIn("\n\n    ./nolbreva list examples/pass\n", self.readme)
+        self.assertIn(f"\n\n{quoted(read('examples', 'listing'))}\n", self.readme)
+
+    def test_the_explanation(self):
+        said = refusals.explain(refusals.read(TOP), 3, 4).rstrip()
+        self.assertIn("    ./nolbreva explain 3 4\n", self.readme)
+        self.assertIn(f"`{said}`", self.readme)
+        self.assertIn("refused 3 4", read("examples", "listing"))
+
+    def test_the_names_of_fields(self):
+        source = read("crates", "header", "src", "lib.rt")
+        structs = dict(re.findall(r"pub struct (\w+) \{\n(.*?)\n\}", source, re.DOTALL))
+        fields = re.findall(r"pub (\w+):", structs["Fields"])
+        others = re.findall(r"pub (\w+):", structs["Header"])
+        told = re.search(r"^- An accepted `header` has (.*?); a refusal", self.readme, re.DOTALL | re.MULTILINE)[1]
+        inner = re.search(r"`fields` \((.*?)\)", told, re.DOTALL)[1]
+        self.assertEqual(re.findall(r"`(\w+)`", inner), fields)
+        self.assertEqual(re.findall(r"`(\w+)`", told.replace(inner, "")), others)
+
+    def test_the_documents_it_names(self):
+        for name in re.findall(r"`((?:docs|crates|independent)/[\w./-]+|LICENSE)`", self.readme):
+            self.assertTrue(os.path.exists(os.path.join(TOP, name)), name)
+        named = set(re.findall(r"`(docs/[\w-]+\.md)`", self.readme))
+        self.assertEqual({f"docs/{name}" for name in os.listdir(os.path.join(TOP, "docs"))}, named)
+
+
+if __name__ == "__main__":
+    unittest.main()

@@ -1,0 +1,41 @@
+"""Options, and words that are none."""
+
+import unittest
+
+from messages import Unusable
+from options import Help, taken, whole_number
+
+
+class Options(unittest.TestCase):
+    def taken(self, *words):
+        return taken(words, flags=("--flag",), valued=("--value",))
+
+    def test_options_and_the_rest(self):
+        self.assertEqual(self.taken(), ({}, []))
+        self.assertEqual(self.taken("a", "--flag", "-", "b"), ({"flag": True}, ["a", "-", "b"]))
+        self.assertEqual(self.taken("--value", "7", "a"), ({"value": "7"}, ["a"]))
+        self.assertEqual(self.taken("--value=7", "--value=8=9"), ({"value": "8=9"}, []))
+
+    def test_the_end_of_options(self):
+        self.assertEqual(self.taken("--flag", "--", "--flag", "--", "-h"), ({"flag": True}, ["--flag", "--", "-h"]))
+
+    def test_help(self):
+        for word in ("-h", "--help"):
+            with self.assertRaises(Help):
+                self.taken("a", word, "--bogus")
+
+    def test_what_is_no_option(self):
+        for words in (["--bogus"], ["-x"], ["--fla"], ["--flag=1"], ["--value"], ["--value=1", "--other=2"]):
+            with self.subTest(words), self.assertRaises(Unusable):
+                self.taken(*words)
+
+    def test_whole_numbers(self):
+        self.assertEqual(whole_number("007"), 7)
+        self.assertEqual(whole_number(str(2**64 - 1)), 2**64 - 1)
+        for word in ("", "-1", "+1", "1.5", "x", "1_000", "\u0663", str(2**64)):
+            with self.subTest(word), self.assertRaises(Unusable):
+                whole_number(word)
+
+
+if __name__ == "__main__":
+    unittest.main()
