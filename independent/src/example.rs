@@ -51,11 +51,12 @@ fn with(src_id: u16, fr_cnt_tx: u16, length: usize, change: impl Fn(&mut Header)
 
 /// The records of the example pass.
 pub fn example() -> Vec<Record> {
-    // Seven bits flipped, two of them parity bits.
+    // Seven bits flipped. Words 4 and 9 have three each, and those of word 4 are all parity bits; word 0
+    // has the pattern of the largest value.
     let mut light = sent(3, 5, 42);
-    flip_pattern(&mut light.header, 0, 0b110_0000_0000_0001);
-    flip_pattern(&mut light.header, 6, 0b001_0000_0000_0000);
-    flip_pattern(&mut light.header, 9, 0b000_1100_0000_0100);
+    flip_pattern(&mut light.header, 0, 0b100_0000_0000_0000);
+    flip_pattern(&mut light.header, 4, 0b000_0010_0010_0001);
+    flip_pattern(&mut light.header, 9, 0b011_0000_0000_0100);
 
     // 42 neighbouring bits: three in each word.
     let mut faded = sent(4, 8, 62);

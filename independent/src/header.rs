@@ -143,8 +143,32 @@ fn crc5_bytes(bits: u128) -> [u8; 9] {
 pub struct Heard {
     /// Its repaired values.
     pub header: Header,
-    /// The bits repaired over all fourteen words.
-    pub flips: u32,
+    /// The flip pattern of each word.
+    pub patterns: [u16; WORDS],
+}
+
+impl Heard {
+    /// The bits repaired in each word.
+    fn word_flips(&self) -> [u32; WORDS] {
+        self.patterns.map(u16::count_ones)
+    }
+
+    /// The bits repaired over all fourteen words: "the total being their ones".
+    pub fn flips(&self) -> u32 {
+        self.word_flips().iter().sum()
+    }
+
+    /// "The lowest word with the most flips"; 0 where nothing was flipped.
+    pub fn worst(&self) -> usize {
+        let flips = self.word_flips();
+        let mut worst = 0;
+        for word in 1..WORDS {
+            if flips[word] > flips[worst] {
+                worst = word;
+            }
+        }
+        worst
+    }
 }
 
 /// Reads a header off the air.
@@ -159,11 +183,11 @@ pub fn read_header(air: &[u8]) -> Result<Heard, Refusal> {
     }
     // 3: "a word is beyond repair", lowest word
     let mut bits = 0;
-    let mut flips = 0;
+    let mut patterns = [0; WORDS];
     for (j, &received) in words_of(air).iter().enumerate() {
         let repaired = repair(received).ok_or(Refusal::new(3, j))?;
         bits = bits << DATA_BITS | u128::from(data(repaired.word));
-        flips += repaired.flips;
+        patterns[j] = repaired.pattern;
     }
     let header = Header::from_bits(bits);
     // 4: "CRC5 differs", CRC5 worked out
@@ -181,7 +205,7 @@ pub fn read_header(air: &[u8]) -> Result<Heard, Refusal> {
     if ai_type_src > LARGEST_AI_TYPE_SRC {
         return Err(Refusal::new(6, ai_type_src));
     }
-    Ok(Heard { header, flips })
+    Ok(Heard { header, patterns })
 }
 
 /// Writes the header of a payload to the first 210 bytes of `out`; "bytes past 210 keep what they held".
@@ -281,6 +305,49 @@ mod tests {
             assert_eq!(header.to_bits(), bits);
             assert_eq!(crc5_bytes(bits & !FLOWN_LOST), bytes_of_table_4(&header));
             assert_eq!(header.crc5(), CRC5.of(&bytes_of_table_4(&header)));
+        }
+    }
+
+    /// A header with these patterns.
+    fn with_patterns(patterns: [u16; WORDS]) -> Heard {
+        let header = Header::default();
+        Heard { header, patterns }
+    }
+
+    #[test]
+    fn nothing_flipped_is_worst_word_0() {
+        let heard = with_patterns([0; WORDS]);
+        assert_eq!((heard.flips(), heard.worst()), (0, 0));
+    }
+
+    #[test]
+    fn the_lowest_of_the_words_with_the_most_flips_is_the_worst() {
+        for pattern in [0x0001_u16, 0x4000, 0x0003, 0x4400, 0x0007, 0x7000] {
+            for worst in 0..WORDS {
+                let mut patterns = [0; WORDS];
+                patterns[worst] = pattern;
+                let ones = pattern.count_ones();
+                let heard = with_patterns(patterns);
+                assert_eq!((heard.flips(), heard.worst()), (ones, worst));
+                // A tie with one later word, then with all of them.
+                for tied in worst + 1..WORDS {
+                    patterns[tied] = pattern;
+                    let ones = ones * (tied - worst + 1) as u32;
+                    let heard = with_patterns(patterns);
+                    assert_eq!((heard.flips(), heard.worst()), (ones, worst));
+                }
+            }
+        }
+    }
+
+    #[test]
+    fn the_worst_word_goes_by_ones_and_not_by_value() {
+        for worst in 0..WORDS {
+            for (least, larger) in [(0x0003, 0x4000), (0x0007, 0x6000)] {
+                let mut patterns = [larger; WORDS];
+                patterns[worst] = least;
+                assert_eq!(with_patterns(patterns).worst(), worst);
+            }
         }
     }
 

@@ -1,16 +1,16 @@
 //! S-NET air headers, power pages and the pass sheet.
 //!
-//! A second implementation of paper 01, written from the papers alone, so that two programs that share
-//! no thought can be compared line by line. It prefers the plain way over the quick one: words are
-//! repaired by trying all 32 valid words, checksums run bit by bit.
+//! A second implementation of paper 01 and of request f of paper 02, written from the papers alone, so
+//! that two programs that share no thought can be compared line by line. It prefers the plain way over
+//! the quick one: words are repaired by trying all 32 valid words, checksums run bit by bit.
 //!
-//! | module | part of paper 01 |
+//! | module | part of the papers |
 //! |---|---|
 //! | [`refusal`] | "a refusal carries number and place only" |
-//! | [`word`] | valid words, repair |
+//! | [`word`] | valid words, repair with its flip pattern |
 //! | [`air`] | 210 elements on air, fourteen words |
 //! | [`crc`] | CRC13, and the bit-by-bit rule of both checksums |
-//! | [`header`] | fields, CRC5, header read (1 to 6) and written (13 to 15) |
+//! | [`header`] | fields, CRC5, header read (1 to 6) and written (13 to 15), the worst word |
 //! | [`frame`] | header and payload together (7, 8) |
 //! | [`page`] | payload header, power page read (9 to 12) and written (18) |
 //! | [`shown`] | the shown value (16) |

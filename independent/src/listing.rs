@@ -69,10 +69,13 @@ fn list_record(
             let src_id = heard.header[Field::SrcId];
             let satellite = ['A', 'B', 'C', 'D'][usize::from(src_id / 2)];
             let radio = src_id % 2 + 1;
-            let (tx, flips, bytes) = (heard.header[Field::FrCntTx], heard.flips, payload.len());
+            let tx = heard.header[Field::FrCntTx];
+            let (flips, worst) = (heard.flips(), heard.worst());
+            let bytes = payload.len();
             writeln!(
                 output,
-                "{number} accepted {satellite} radio {radio} tx {tx} repaired {flips} bytes {bytes}"
+                "{number} accepted {satellite} radio {radio} tx {tx} \
+                 repaired {flips} worst {worst} bytes {bytes}"
             )?;
         }
         Err(refusal) => writeln!(output, "{number} {refusal}")?,

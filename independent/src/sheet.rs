@@ -95,7 +95,7 @@ impl Sheet {
             Ok(heard) => {
                 let source = &mut self.sources[usize::from(heard.header[Field::SrcId])];
                 // FrCntTx has four bits.
-                source.accept(heard.header[Field::FrCntTx] as u8, heard.flips);
+                source.accept(heard.header[Field::FrCntTx] as u8, heard.flips());
             }
             Err(refusal) => {
                 let count = &mut self.refused[usize::from(refusal.number) - 1];

@@ -71,13 +71,14 @@ pub fn distance(a: u16, b: u16) -> u32 {
     (a ^ b).count_ones()
 }
 
-/// A valid word and how far the received one was from it.
+/// A valid word and where the received one differs from it.
 #[derive(Clone, Copy, Debug, PartialEq, Eq)]
 pub struct Repaired {
     /// The valid word.
     pub word: u16,
-    /// The differing places, parity positions among them.
-    pub flips: u32,
+    /// "The flip pattern itself, a 15-bit number with at most three ones": bit i is set where the two differ at
+    /// position i, parity positions among them.
+    pub pattern: u16,
 }
 
 /// "Tries the 32 valid words and stops at the first one within three"; `None` is beyond repair.
@@ -86,8 +87,8 @@ pub fn repair(received: u16) -> Option<Repaired> {
         return None;
     }
     VALID.iter().find_map(|&word| {
-        let flips = distance(received, word);
-        (flips <= MOST_FLIPS).then_some(Repaired { word, flips })
+        let pattern = received ^ word;
+        (distance(received, word) <= MOST_FLIPS).then_some(Repaired { word, pattern })
     })
 }
 
@@ -95,8 +96,8 @@ pub fn repair(received: u16) -> Option<Repaired> {
 mod tests {
     use super::*;
 
-    fn repaired(word: u16, flips: u32) -> Option<Repaired> {
-        Some(Repaired { word, flips })
+    fn repaired(word: u16, pattern: u16) -> Option<Repaired> {
+        Some(Repaired { word, pattern })
     }
 
     #[test]
@@ -104,8 +105,9 @@ mod tests {
         assert_eq!(repair(0), repaired(0, 0));
         assert_eq!(repair(0x537), repaired(0x537, 0));
         assert_eq!(repair(0x7FFF), repaired(0x7FFF, 0));
-        assert_eq!(repair(0x0007), repaired(0, 3));
-        assert_eq!(repair(0x0017), repaired(0x537, 3));
+        // "0x0007 becomes 0 with 3; 0x0017 becomes 0x537 with 3": three ones each.
+        assert_eq!(repair(0x0007), repaired(0, 0b000_0000_0000_0111));
+        assert_eq!(repair(0x0017), repaired(0x537, 0b000_0101_0010_0000));
         assert_eq!(repair(0x000F), None);
     }
 
@@ -142,8 +144,8 @@ mod tests {
     fn of_1024_remainders_576_are_repaired_and_448_are_beyond() {
         // A word and its remainder differ by a valid word, so both are repaired or neither is.
         for word in 0..=LARGEST {
-            let own = repair(word).map(|r| r.flips);
-            let of_remainder = repair(remainder(word)).map(|r| r.flips);
+            let own = repair(word).map(|r| r.pattern);
+            let of_remainder = repair(remainder(word)).map(|r| r.pattern);
             assert_eq!(own, of_remainder);
         }
         let within = (0..1 << PARITY_BITS)
@@ -151,6 +153,17 @@ mod tests {
             .count();
         assert_eq!(within, 576);
         assert_eq!((1 << PARITY_BITS) - within, 448);
+    }
+
+    #[test]
+    fn each_of_the_576_patterns_of_at_most_three_ones_is_given_for_32_words() {
+        let mut times = [0; 1 << POSITIONS];
+        for pattern in (0..=LARGEST).filter_map(|word| Some(repair(word)?.pattern)) {
+            times[usize::from(pattern)] += 1;
+        }
+        let given: Vec<usize> = (0..times.len()).filter(|&p| times[p] > 0).collect();
+        assert_eq!(given.len(), 576);
+        assert!(given.iter().all(|&p| times[p] == 32 && p.count_ones() <= 3));
     }
 
     #[test]
@@ -177,10 +190,19 @@ mod tests {
     }
 
     #[test]
-    fn every_pattern_of_at_most_three_flips_is_undone_and_counted() {
+    fn every_pattern_of_at_most_three_flips_is_undone_and_told() {
         for &word in &VALID {
             for pattern in (0..=LARGEST).filter(|p| p.count_ones() <= MOST_FLIPS) {
-                assert_eq!(repair(word ^ pattern), repaired(word, pattern.count_ones()));
+                assert_eq!(repair(word ^ pattern), repaired(word, pattern));
+            }
+        }
+    }
+
+    #[test]
+    fn bit_i_of_the_pattern_is_position_i() {
+        for &word in &VALID {
+            for i in 0..POSITIONS {
+                assert_eq!(repair(word ^ 1 << i), repaired(word, 1 << i));
             }
         }
     }

@@ -35,6 +35,15 @@ fn sealed(payload: &[u8], change: impl Fn(&mut Header)) -> [u8; AIR_BITS] {
     header.to_air()
 }
 
+/// Where two headers on air differ, word by word: "bit n of the 210 is position n div 14 of word n mod 14".
+fn flipped(sent: &[u8; AIR_BITS], received: &[u8; AIR_BITS]) -> [u16; WORDS] {
+    let mut patterns = [0; WORDS];
+    for n in (0..AIR_BITS).filter(|&n| sent[n] != received[n]) {
+        patterns[n % 14] += 1 << (n / 14);
+    }
+    patterns
+}
+
 fn refusal<T>(number: u8, place: usize) -> Result<T, Refusal> {
     Err(Refusal { number, place })
 }
@@ -46,7 +55,7 @@ fn what_is_written_is_read_back() {
         let (given, payload) = (given(&mut rng), rng.bytes(length));
         let air = written(&given, &payload);
         let heard = read_frame(&air, &payload).unwrap();
-        assert_eq!(heard.flips, 0);
+        assert_eq!(heard.patterns, [0; WORDS]);
         assert_eq!(heard.header.values[..GIVEN], given);
         assert_eq!(usize::from(heard.header[Field::PduLength]), length);
         assert_eq!(heard.header[Field::Crc13], crc13(&payload));
@@ -56,7 +65,7 @@ fn what_is_written_is_read_back() {
 }
 
 #[test]
-fn up_to_three_flips_a_word_are_undone_and_counted() {
+fn up_to_three_flips_a_word_are_undone_counted_and_told() {
     let mut rng = Rng::new(2);
     for _ in 0..500 {
         let (given, payload) = (given(&mut rng), rng.bytes(20));
@@ -69,8 +78,66 @@ fn up_to_three_flips_a_word_are_undone_and_counted() {
             flips += count;
         }
         let header = read_frame(&clean, &payload).unwrap().header;
-        assert_eq!(read_frame(&air, &payload), Ok(Heard { header, flips }));
+        let heard = read_frame(&air, &payload).unwrap();
+        let patterns = flipped(&clean, &air);
+        assert_eq!(heard, Heard { header, patterns });
+        assert_eq!(heard.flips(), flips);
     }
+}
+
+#[test]
+fn air_bit_14_i_plus_j_is_bit_i_of_pattern_j() {
+    let clean = written(&given(&mut Rng::new(12)), &[]);
+    for n in 0..AIR_BITS {
+        let mut air = clean;
+        air[n] ^= 1;
+        let mut patterns = [0; WORDS];
+        patterns[n % 14] = 1 << (n / 14);
+        let heard = read_header(&air).unwrap();
+        assert_eq!(heard.patterns, patterns);
+        assert_eq!((heard.flips(), heard.worst()), (1, n % 14));
+    }
+}
+
+#[test]
+fn marked_words_in_a_header_give_their_patterns() {
+    // Word 1 has the last two bits of SrcId and the first three of DstId.
+    for (dst_id, word, received, pattern) in [
+        (0, 0, 0x0007, 0x0007),
+        (0b001_0000, 0x537, 0x0017, 0x0520),
+        (0b001_0000, 0x537, 0x537, 0),
+    ] {
+        let mut given = [0; GIVEN];
+        given[Field::DstId as usize] = dst_id;
+        let mut air = written(&given, &[]);
+        let mut patterns = [0; WORDS];
+        patterns[1] = pattern;
+        for position in 0..15 {
+            let bit = &mut air[14 * position + 1];
+            assert_eq!(u16::from(*bit), word >> position & 1);
+            *bit = (received >> position & 1) as u8;
+        }
+        let heard = read_frame(&air, &[]).unwrap();
+        assert_eq!(heard.patterns, patterns);
+        assert_eq!(heard.flips(), pattern.count_ones());
+        assert_eq!(heard.worst(), usize::from(pattern != 0));
+    }
+}
+
+#[test]
+fn flips_in_parity_positions_are_told_as_others_are() {
+    let clean = written(&given(&mut Rng::new(13)), &[]);
+    let header = read_header(&clean).unwrap().header;
+    let mut air = clean;
+    let mut patterns = [0; WORDS];
+    // Positions 0 to 9 are parity: of words 8 and 9 nothing else, of word 3 none.
+    (patterns[3], patterns[8], patterns[9]) = (0x6000, 0x0241, 0x0106);
+    for (word, &pattern) in patterns.iter().enumerate() {
+        flip_pattern(&mut air, word, pattern);
+    }
+    let heard = read_header(&air).unwrap();
+    assert_eq!(heard, Heard { header, patterns });
+    assert_eq!((heard.flips(), heard.worst()), (8, 8));
 }
 
 #[test]
@@ -81,7 +148,9 @@ fn three_flips_in_every_word_are_42() {
         for word in 0..WORDS {
             flip_some(&mut rng, &mut air, word, 3);
         }
-        assert_eq!(read_frame(&air, &[]).unwrap().flips, 42);
+        let heard = read_frame(&air, &[]).unwrap();
+        assert_eq!(heard.patterns.map(u16::count_ones), [3; WORDS]);
+        assert_eq!((heard.flips(), heard.worst()), (42, 0));
     }
 }
 
@@ -94,8 +163,14 @@ fn a_burst_of_42_neighbours_is_undone_wherever_it_stands() {
         for start in 0..=AIR_BITS - length {
             let mut air = clean;
             burst(&mut air, start, length);
-            let flips = length as u32;
-            assert_eq!(read_header(&air), Ok(Heard { header, flips }));
+            let heard = read_header(&air).unwrap();
+            let patterns = flipped(&clean, &air);
+            assert_eq!(heard, Heard { header, patterns });
+            assert_eq!(heard.flips() as usize, length);
+            // Whole rounds of fourteen are a tie. So many words from this one on have one flip more, word 0 after word 13.
+            let (first, more) = (start % 14, length % 14);
+            let of_word_0 = more == 0 || first + more > 14;
+            assert_eq!(heard.worst(), if of_word_0 { 0 } else { first });
         }
     }
 }

@@ -2,15 +2,18 @@
 
 use std::collections::BTreeSet;
 
-use independent::air::AIR_BITS;
+use independent::air::{AIR_BITS, WORDS};
 use independent::example::{example, write_example};
 use independent::frame::read_frame;
-use independent::header::{Field, Header};
+use independent::header::{Field, Header, Heard};
 use independent::listing::list;
 use independent::rng::Rng;
 use independent::sample::{flip_pattern, seal, Record};
 use independent::season::{write_season, Cut, Full, Options};
 use independent::sheet::Sheet;
+use telling::all_sorts_in;
+
+mod telling;
 
 fn listed(mut input: &[u8]) -> String {
     let mut output = Vec::new();
@@ -48,13 +51,13 @@ fn the_papers_listing() {
 #[test]
 fn the_papers_accepted_line() {
     let mut accepted = record(3, 5, vec![1; 42]);
-    flip_pattern(&mut accepted.header, 0, 0x7000);
-    flip_pattern(&mut accepted.header, 7, 0x0007);
-    flip_pattern(&mut accepted.header, 13, 0x0200);
+    flip_pattern(&mut accepted.header, 3, 0x4000);
+    flip_pattern(&mut accepted.header, 4, 0x0007);
+    flip_pattern(&mut accepted.header, 13, 0x7000);
     let zeros = [0; 3 * (2 + AIR_BITS)];
     let bytes = [&zeros[..], &bytes_of(&[accepted])].concat();
     let lines = listed(&bytes);
-    assert!(lines.contains("\n3 accepted B radio 2 tx 5 repaired 7 bytes 42\n"));
+    assert!(lines.contains("\n3 accepted B radio 2 tx 5 repaired 7 worst 4 bytes 42\n"));
     assert!(lines.ends_with("\nheard 4 accepted 1 refused 3\n"));
 }
 
@@ -64,7 +67,8 @@ fn satellites_and_radios() {
     let mut expected = String::from("pass sheet\n");
     for (number, name) in ["A", "A", "B", "B", "C", "C", "D", "D"].iter().enumerate() {
         let radio = number % 2 + 1;
-        expected += &format!("{number} accepted {name} radio {radio} tx 15 repaired 0 bytes 0\n");
+        expected +=
+            &format!("{number} accepted {name} radio {radio} tx 15 repaired 0 worst 0 bytes 0\n");
     }
     expected += "heard 8 accepted 8 refused 0\n";
     assert_eq!(listed(&bytes_of(&records)), expected);
@@ -74,7 +78,7 @@ fn satellites_and_radios() {
 fn every_place_where_the_input_can_end() {
     let first = bytes_of(&[record(0, 1, vec![9; 5])]);
     let whole = bytes_of(&[record(0, 1, vec![9; 5]), record(0, 2, vec![9; 3])]);
-    let one = "pass sheet\n0 accepted A radio 1 tx 1 repaired 0 bytes 5\n";
+    let one = "pass sheet\n0 accepted A radio 1 tx 1 repaired 0 worst 0 bytes 5\n";
     for end in 0..=whole.len() {
         let expected = if end == 0 {
             String::from("pass sheet\nheard 0 accepted 0 refused 0\n")
@@ -86,7 +90,7 @@ fn every_place_where_the_input_can_end() {
             format!("{one}cut\nheard 1 accepted 1 refused 0\n")
         } else {
             format!(
-                "{one}1 accepted A radio 1 tx 2 repaired 0 bytes 3\nheard 2 accepted 2 refused 0\n"
+                "{one}1 accepted A radio 1 tx 2 repaired 0 worst 0 bytes 3\nheard 2 accepted 2 refused 0\n"
             )
         };
         assert_eq!(listed(&whole[..end]), expected, "ends after {end}");
@@ -101,7 +105,7 @@ fn a_length_over_1023_cuts_even_where_the_bytes_are_there() {
         ..longest.clone()
     };
     let bytes = bytes_of(&[longest.clone(), over, longest]);
-    let expected = "pass sheet\n0 accepted A radio 1 tx 1 repaired 0 bytes 1023\ncut\n\
+    let expected = "pass sheet\n0 accepted A radio 1 tx 1 repaired 0 worst 0 bytes 1023\ncut\n\
                     heard 1 accepted 1 refused 0\n";
     assert_eq!(listed(&bytes), expected);
     let cut = "pass sheet\ncut\nheard 0 accepted 0 refused 0\n";
@@ -144,22 +148,22 @@ fn the_example_pass() {
     write_example(&mut bytes).unwrap();
     let expected = "\
 pass sheet
-0 accepted A radio 1 tx 14 repaired 0 bytes 62
-1 accepted A radio 1 tx 15 repaired 0 bytes 62
-2 accepted D radio 2 tx 0 repaired 0 bytes 69
-3 accepted B radio 2 tx 5 repaired 7 bytes 42
-4 accepted A radio 1 tx 0 repaired 0 bytes 62
-5 accepted C radio 1 tx 8 repaired 42 bytes 62
-6 accepted C radio 1 tx 8 repaired 0 bytes 62
+0 accepted A radio 1 tx 14 repaired 0 worst 0 bytes 62
+1 accepted A radio 1 tx 15 repaired 0 worst 0 bytes 62
+2 accepted D radio 2 tx 0 repaired 0 worst 0 bytes 69
+3 accepted B radio 2 tx 5 repaired 7 worst 4 bytes 42
+4 accepted A radio 1 tx 0 repaired 0 worst 0 bytes 62
+5 accepted C radio 1 tx 8 repaired 42 worst 0 bytes 62
+6 accepted C radio 1 tx 8 repaired 0 worst 0 bytes 62
 7 refused 3 4
 8 refused 2 77
-9 accepted A radio 1 tx 3 repaired 0 bytes 62
+9 accepted A radio 1 tx 3 repaired 0 worst 0 bytes 62
 10 refused 4 8
 11 refused 5 97
 12 refused 6 9
 13 refused 7 69
 14 refused 8 6021
-15 accepted C radio 2 tx 0 repaired 0 bytes 0
+15 accepted C radio 2 tx 0 repaired 0 worst 0 bytes 0
 heard 16 accepted 9 refused 7
 ";
     assert_eq!(listed(&bytes), expected);
@@ -208,9 +212,11 @@ fn a_season_has_everything() {
     assert_eq!(records.len(), 3_000);
     let mut sheet = Sheet::new();
     let (mut flips, mut lengths) = (BTreeSet::new(), BTreeSet::new());
+    let mut patterns = Vec::new();
     for record in &records {
         if let Ok(heard) = sheet.offer(&record.header, &record.payload) {
-            flips.insert(heard.flips);
+            flips.insert(heard.flips());
+            patterns.push(heard.patterns);
             lengths.insert(record.payload.len());
         }
     }
@@ -221,6 +227,30 @@ fn a_season_has_everything() {
     }
     assert!(flips.contains(&0) && flips.contains(&42) && flips.len() > 30);
     assert!(lengths.contains(&0) && lengths.contains(&1_023) && lengths.len() > 50);
+    all_sorts_in(&patterns);
+}
+
+/// What is accepted of a season.
+fn heard_of(options: &Options) -> Vec<Heard> {
+    let records = records_of(&season(options));
+    let heard = records.iter().map(|r| read_frame(&r.header, &r.payload));
+    heard.filter_map(Result::ok).collect()
+}
+
+#[test]
+fn the_stored_seasons_have_every_sort_of_flip_pattern_and_every_worst_word() {
+    // They are those of .ci/stored.
+    let worst = Options {
+        clean: true,
+        payload: Some(0),
+        ..options(84, 28)
+    };
+    for options in [options(2_026, 400), options(5, 60), worst.clone()] {
+        let patterns: Vec<_> = heard_of(&options).iter().map(|h| h.patterns).collect();
+        all_sorts_in(&patterns);
+    }
+    let worst: BTreeSet<usize> = heard_of(&worst).iter().map(Heard::worst).collect();
+    assert!(worst.into_iter().eq(0..WORDS));
 }
 
 #[test]
@@ -234,7 +264,7 @@ fn a_clean_season_is_accepted() {
     let mut flips = 0;
     for record in &records {
         assert_eq!(record.payload.len(), 62);
-        flips += read_frame(&record.header, &record.payload).unwrap().flips;
+        flips += read_frame(&record.header, &record.payload).unwrap().flips();
     }
     assert_eq!(records.len(), 500);
     assert!(flips > 500);

@@ -22,7 +22,10 @@ fn accepted_frames_touch_their_source_alone() {
     for (src_id, fr_cnt_tx) in [(0, 14), (5, 3), (0, 1), (5, 3), (0, 1), (5, 2)] {
         let mut air = frame(src_id, fr_cnt_tx);
         flip_pattern(&mut air, 2, 0x4001);
-        assert_eq!(sheet.offer(&air, &[]).unwrap().flips, 2);
+        let heard = sheet.offer(&air, &[]).unwrap();
+        let patterns = [0, 0, 0x4001, 0, 0, 0, 0, 0, 0, 0, 0, 0, 0, 0];
+        assert_eq!(heard.patterns, patterns);
+        assert_eq!((heard.flips(), heard.worst()), (2, 2));
     }
     let mut expected = Sheet::new();
     expected.sources[0] = Source {

@@ -1,8 +1,16 @@
 //! Vectors: their sizes, some lines that the paper gives, replies and their comparison.
 
+use std::array;
+use std::collections::BTreeSet;
+
+use independent::air::WORDS;
 use independent::vectors::{
     compare, write_inputs, write_lines, write_replies, Kind, DEFAULT_SEED, KINDS,
 };
+use independent::word::repair;
+use telling::all_sorts_in;
+
+mod telling;
 
 fn inputs(kind: Kind, seed: u64) -> Vec<u8> {
     let mut bytes = Vec::new();
@@ -26,7 +34,7 @@ fn lines(kind: Kind) -> Vec<String> {
 
 /// The size of a record of each kind, and of a reply.
 const SIZES: [usize; 11] = [2, 1, 2_049, 65, 258, 20, 262, 1_102, 36, 20, 390];
-const REPLY_SIZES: [usize; 11] = [16, 3, 4, 1, 32, 267, 32, 80, 75, 17, 208];
+const REPLY_SIZES: [usize; 11] = [12, 3, 4, 1, 60, 267, 60, 80, 75, 17, 236];
 
 #[test]
 fn every_input_has_its_size_its_reply_and_its_line() {
@@ -53,11 +61,11 @@ fn a_seed_changes_what_is_left_to_chance() {
 #[test]
 fn marked_examples_are_among_the_lines() {
     let words = lines(Kind::Words);
-    assert_eq!(words[0], "0 0 0");
-    assert_eq!(words[0x537], "1335 1335 0");
-    assert_eq!(words[0x7FFF], "32767 32767 0");
-    assert_eq!(words[0x0007], "7 0 3");
-    assert_eq!(words[0x0017], "23 1335 3");
+    assert_eq!(words[0], "0 0 0000");
+    assert_eq!(words[0x537], "1335 1335 0000");
+    assert_eq!(words[0x7FFF], "32767 32767 0000");
+    assert_eq!(words[0x0007], "7 0 0007");
+    assert_eq!(words[0x0017], "23 1335 0520");
     assert_eq!(words[0x000F], "15 beyond");
     assert_eq!(words[0x8000], "32768 beyond");
     let beyond = words.iter().filter(|line| line.ends_with("beyond"));
@@ -125,38 +133,58 @@ fn every_answer_is_among_the_lines() {
     has(Kind::Shown, &["0000000000000000", "nan", "refused 16 0"]);
 }
 
-/// A record and its line.
-type Vector = (Vec<u8>, String);
+/// A record, its reply and its line.
+#[derive(PartialEq)]
+struct Vector {
+    record: Vec<u8>,
+    reply: Vec<u8>,
+    line: String,
+}
+
+impl Vector {
+    fn new(record: &[u8], reply: &[u8], line: String) -> Vector {
+        Vector {
+            record: record.to_vec(),
+            reply: reply.to_vec(),
+            line,
+        }
+    }
+}
+
+/// The vectors of a kind.
+fn vectors(kind: Kind) -> Vec<Vector> {
+    let (inputs, replies) = (inputs(kind, DEFAULT_SEED), replies(kind));
+    let records = inputs.chunks(SIZES[kind as usize]);
+    let replies = replies.chunks(REPLY_SIZES[kind as usize]);
+    let both = records.zip(replies).zip(lines(kind));
+    both.map(|((record, reply), line)| Vector::new(record, reply, line))
+        .collect()
+}
 
 /// The vectors of `stored`, for each kind.
 fn stored() -> [Vec<Vector>; 11] {
     let mut vectors: [Vec<Vector>; 11] = Default::default();
-    let bytes = inputs(Kind::Stored, DEFAULT_SEED);
-    let mut rest = bytes.as_slice();
+    let (inputs, replies) = (inputs(Kind::Stored, DEFAULT_SEED), replies(Kind::Stored));
+    let (mut records, mut replies) = (inputs.as_slice(), replies.as_slice());
     for line in lines(Kind::Stored) {
-        let kind = usize::from(rest[0]);
-        let (record, after) = rest[1..].split_at(SIZES[kind]);
-        vectors[kind].push((record.to_vec(), line));
-        rest = after;
+        let kind = usize::from(records[0]);
+        let (record, later_records) = records[1..].split_at(SIZES[kind]);
+        let (reply, later_replies) = replies.split_at(REPLY_SIZES[kind]);
+        (records, replies) = (later_records, later_replies);
+        vectors[kind].push(Vector::new(record, reply, line));
     }
-    assert!(rest.is_empty());
+    assert!(records.is_empty() && replies.is_empty());
     vectors
 }
 
 #[test]
 fn stored_records_are_those_of_the_other_streams_in_their_order() {
     for ((_, kind), records) in KINDS.into_iter().zip(stored()) {
-        let bytes = inputs(kind, DEFAULT_SEED);
-        let mut others = bytes
-            .chunks(SIZES[kind as usize])
-            .map(Vec::from)
-            .zip(lines(kind));
-        // The headers with damage in one word stand after the others.
-        let own = if kind == Kind::Headers { 14 * 5 } else { 0 };
-        let taken = records.len() - own;
-        assert!(taken > 0);
-        for record in records.into_iter().take(taken) {
-            assert!(others.any(|other| other == record), "{kind:?} {}", record.1);
+        let mut others = vectors(kind).into_iter();
+        assert!(!records.is_empty());
+        for record in records {
+            let found = others.any(|other| other == record);
+            assert!(found, "{kind:?} {}", record.line);
         }
     }
 }
@@ -165,7 +193,7 @@ fn stored_records_are_those_of_the_other_streams_in_their_order() {
 fn stored_records_have_every_answer_of_their_kind() {
     let stored = stored();
     let has = |kind: Kind, start: String| {
-        let mut lines = stored[kind as usize].iter().map(|(_, line)| line);
+        let mut lines = stored[kind as usize].iter().map(|v| &v.line);
         assert!(
             lines.any(|line| line.starts_with(&start)),
             "{kind:?} {start}"
@@ -193,7 +221,9 @@ fn stored_records_have_every_answer_of_their_kind() {
         for place in places {
             let line = format!("refused {number} {place}");
             assert!(
-                stored[Kind::Headers as usize].iter().any(|r| r.1 == line),
+                stored[Kind::Headers as usize]
+                    .iter()
+                    .any(|v| v.line == line),
                 "{line}"
             );
         }
@@ -211,7 +241,7 @@ fn stored_records_have_the_limits_of_their_kind() {
     let stored = stored();
     let has = |kind: Kind, at: usize, bytes: &[u8]| {
         let mut records = stored[kind as usize].iter();
-        let found = records.any(|(record, _)| record[at..].starts_with(bytes));
+        let found = records.any(|v| v.record[at..].starts_with(bytes));
         assert!(found, "{kind:?} {at} {bytes:?}");
     };
     for length in [0u16, 1_023, 1_024] {
@@ -237,10 +267,74 @@ fn stored_records_have_the_limits_of_their_kind() {
     }
     // Light damage in one word; a burst of 42, or three flips in every word.
     let repaired = |flips: u32| {
-        let mut lines = stored[Kind::Headers as usize].iter().map(|(_, line)| line);
-        lines.any(|line| line.starts_with("accepted ") && line.ends_with(&format!(" {flips}")))
+        let mut lines = stored[Kind::Headers as usize].iter().map(|v| &v.line);
+        // `accepted`, seventeen values, the flips
+        lines.any(|line| line.split(' ').nth(18) == Some(&flips.to_string()))
     };
     assert!([0, 1, 2, 3, 42].into_iter().all(repaired));
+}
+
+/// The header bytes of a record of `sheets`, `headers` or `frames`: behind the sheet, or behind their length.
+fn header_of(kind: Kind, record: &[u8]) -> &[u8] {
+    if kind == Kind::Sheets {
+        return &record[176..][..210];
+    }
+    let length = u16::from_be_bytes([record[0], record[1]]);
+    &record[2..][..usize::from(length)]
+}
+
+/// The fourteen patterns behind answer, fields and flips.
+fn patterns_of(reply: &[u8]) -> [u16; WORDS] {
+    array::from_fn(|word| u16::from_be_bytes([reply[32 + 2 * word], reply[33 + 2 * word]]))
+}
+
+/// The patterns of a header's words, 0 for those beyond repair.
+fn patterns_on_air(header: &[u8]) -> [u16; WORDS] {
+    array::from_fn(|word| {
+        let received = (0..15).map(|i| u16::from(header[14 * i + word] & 1) << i);
+        repair(received.sum()).map_or(0, |repaired| repaired.pattern)
+    })
+}
+
+#[test]
+fn accepted_replies_have_the_pattern_of_every_word_and_their_ones_in_all() {
+    let stored = stored();
+    for kind in [Kind::Headers, Kind::Frames, Kind::Sheets] {
+        let mut all = Vec::new();
+        for vector in stored[kind as usize].iter().filter(|v| v.reply[0] == 0) {
+            let patterns = patterns_of(&vector.reply);
+            assert_eq!(patterns, patterns_on_air(header_of(kind, &vector.record)));
+            let flips: u32 = patterns.iter().map(|p| p.count_ones()).sum();
+            assert_eq!(vector.reply[28..32], flips.to_be_bytes());
+            // `accepted`, seventeen values, the flips, the patterns
+            let words: Vec<&str> = vector.line.split(' ').collect();
+            assert_eq!(words[18], flips.to_string());
+            assert_eq!(words[19..][..WORDS], patterns.map(|p| format!("{p:04x}")));
+            all.push(patterns);
+        }
+        all_sorts_in(&all);
+    }
+}
+
+#[test]
+fn beside_a_refusal_everything_else_is_0_although_bits_were_flipped() {
+    let stored = stored();
+    for (kind, numbers) in [
+        (Kind::Headers, vec![1, 2, 3, 4, 5, 6]),
+        (Kind::Frames, vec![1, 2, 3, 4, 5, 6, 7, 8]),
+        (Kind::Sheets, vec![2, 3, 4, 5, 6, 7, 8, 17]),
+    ] {
+        let mut flipped = BTreeSet::new();
+        for vector in stored[kind as usize].iter().filter(|v| v.reply[0] != 0) {
+            // fields, flips and patterns, behind number and place and before a sheet
+            assert_eq!(vector.reply[9..60], [0; 51]);
+            let header = header_of(kind, &vector.record);
+            if header.len() >= 210 && patterns_on_air(header) != [0; WORDS] {
+                flipped.insert(vector.reply[0]);
+            }
+        }
+        assert!(flipped.into_iter().eq(numbers), "{kind:?}");
+    }
 }
 
 /// The reply number `number` of a kind.
@@ -251,10 +345,12 @@ fn reply(kind: Kind, number: usize) -> Vec<u8> {
 
 #[test]
 fn replies_stand_byte_for_byte_as_told() {
-    // 7 becomes 0 with 3 flips, by the table and by the search; 15 is beyond repair.
-    let three_flips = [0, 7, 1, 0, 0, 0, 0, 0, 3, 1, 0, 0, 0, 0, 0, 3];
-    assert_eq!(reply(Kind::Words, 7), three_flips);
-    let beyond = [0, 15, 0, 0, 0, 0, 0, 0, 0, 0, 0, 0, 0, 0, 0, 0];
+    // 7 becomes 0 with pattern 7, by the table and by the search; 0x17 becomes 0x537 with 0x520; 15 is beyond repair.
+    let seven = [0, 7, 1, 0, 0, 0, 7, 1, 0, 0, 0, 7];
+    assert_eq!(reply(Kind::Words, 7), seven);
+    let another = [0, 0x17, 1, 5, 0x37, 5, 0x20, 1, 5, 0x37, 5, 0x20];
+    assert_eq!(reply(Kind::Words, 0x17), another);
+    let beyond = [0, 15, 0, 0, 0, 0, 0, 0, 0, 0, 0, 0];
     assert_eq!(reply(Kind::Words, 15), beyond);
     assert_eq!(reply(Kind::Encode, 1), [1, 0x05, 0x37]);
     assert_eq!(reply(Kind::Crc13, 0), [0, 0, 0x1F, 0xFF]);
@@ -264,7 +360,7 @@ fn replies_stand_byte_for_byte_as_told() {
         let lines = lines(Kind::Headers);
         lines.iter().position(|l| l == line).unwrap()
     };
-    let mut refused = vec![0; 32];
+    let mut refused = vec![0; 60];
     refused[0] = 1;
     assert_eq!(reply(Kind::Headers, number("refused 1 0")), refused);
     (refused[0], refused[8]) = (4, 6);
@@ -278,6 +374,32 @@ fn replies_stand_byte_for_byte_as_told() {
     // one byte more keeps what it held
     (rows[10], rows[11 + 34]) = (35, 0xA7);
     assert_eq!(reply(Kind::Rows, 35 * 8), rows);
+}
+
+#[test]
+fn patterns_stand_byte_for_byte_as_told() {
+    // 65 zero bits have the CRC5 6, and 0x1B85 is the valid word that carries it as word 13. Flipped are positions 0 to 2
+    // of word 0 and 14 and 0 of word 1.
+    let mut air = [0; 210];
+    let words = [(0, 0x0007), (1, 0x4001), (13, 0x1B85)];
+    for (word, received) in words {
+        (0..15).for_each(|i| air[14 * i + word] = (received >> i & 1) as u8);
+    }
+    let mut header = [&[0, 210][..], &air, &[0; 46]].concat();
+    let patterns = [&[0x00, 0x07, 0x40, 0x01][..], &[0; 24]].concat();
+    let accepted = [&[0; 27][..], &[6, 0, 0, 0, 5], &patterns].concat();
+    let agrees = |kind: Kind, record: &[u8], reply: &[u8]| {
+        let differences = compare(kind, record, reply).unwrap().differences;
+        assert_eq!(differences, Vec::<String>::new());
+    };
+    agrees(Kind::Headers, &header, &accepted);
+    // CRC13 of nothing is 0x1FFF, and the header has 0: no pattern stands beside the refusal. It is the sheet's first of 8.
+    let refused = [&[8, 0, 0, 0, 0, 0, 0, 0x1F, 0xFF][..], &[0; 51]].concat();
+    header.extend([0; 4]);
+    agrees(Kind::Frames, &header, &refused);
+    let offered = [&[0; 176][..], &air, &[0; 4]].concat();
+    let counted = [&refused[..], &[0; 175], &[1]].concat();
+    agrees(Kind::Sheets, &offered, &counted);
 }
 
 #[test]
@@ -313,18 +435,18 @@ fn any_other_byte_is_found() {
 #[test]
 fn a_difference_tells_both_lines() {
     let inputs = [0, 7, 0, 15];
-    let mut other = replies(Kind::Words)[16 * 7..][..16].to_vec();
-    other.extend(&replies(Kind::Words)[16 * 14..][..16]);
+    let mut other = reply(Kind::Words, 7);
+    other.extend(reply(Kind::Words, 14));
     let compared = compare(Kind::Words, &inputs, &other).unwrap();
     assert_eq!(
         compared.to_string(),
-        "record 1 (words), byte 1\n  expected: 15 beyond\n  found:    14 0 3\n2 records compared, 1 differ"
+        "record 1 (words), byte 1\n  expected: 15 beyond\n  found:    14 0 000e\n2 records compared, 1 differ"
     );
     // the search says something else than the table
-    other.truncate(16);
-    other[15] = 2;
+    other.truncate(12);
+    other[11] = 3;
     let compared = compare(Kind::Words, &inputs[..2], &other).unwrap();
-    assert!(compared.differences[0].ends_with("found:    7 by table 0 3 by search 0 2"));
+    assert!(compared.differences[0].ends_with("found:    7 by table 0 0007 by search 0 0003"));
 }
 
 #[test]
@@ -376,7 +498,7 @@ fn stored_records_replies_and_lines_are_the_same_everywhere() {
     let text = lines(Kind::Stored).join("\n") + "\n";
     let replies = replies(Kind::Stored);
     assert!(bytes.len() + replies.len() <= 2_500_000);
-    assert_eq!(hash(&bytes), 0x7200_F351_72FA_3F6C);
-    assert_eq!(hash(text.as_bytes()), 0x2AA7_ABB7_9AAD_01D5);
-    assert_eq!(hash(&replies), 0x4300_1BF6_8BE6_3A5A);
+    assert_eq!(hash(&bytes), 0xFC46_5096_569F_C081);
+    assert_eq!(hash(text.as_bytes()), 0xB053_A46D_DA25_FA3D);
+    assert_eq!(hash(&replies), 0xCFCE_5B63_BB96_937C);
 }

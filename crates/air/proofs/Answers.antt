@@ -1,22 +1,23 @@
--- What the answer of `repair_words` says: the lowest word beyond repair, or the valid words and their flips.
+-- What the answer of `repair_words` says: the lowest word beyond repair, or the valid words and their flip patterns.
 -- Assumes nothing.
-use mathlib.Core.Path.{_≡_, ap, _∙_}
+use mathlib.Core.Path.{_≡_, refl, ap, _∙_}
 use mathlib.Core.Logic.{⊎-elim}
 use mathlib.Core.List.{List}
-use Prim.Native.Nat.{ℕ, _<_, _≤_}
+use Prim.Native.Nat.{ℕ, _<_, _≤_, zero-le}
 use native.Mathlib.Omega.{arith}
+use lib.Count.{onesIn}
 use lib.Dec.{lit<}
-use lib.ListN.{getD, replicate}
+use lib.ListN.{length, getD, replicate}
 use borrow.Author.Tests.{lt-ltb, le-ltb}
 use Rattle.base.proofs.Tests.{lt-or-ge}
 use Rattle.base.proofs.Lowest.{lowest-is}
-use Rattle.base.proofs.Tabulate.{tabulate-all}
-use Rattle.word.specs.Words.{wordLimit}
-use Rattle.word.specs.Repairs.{isBeyond, wordOf}
-use Rattle.word.proofs.Answer.{repaired-lt}
+use Rattle.base.proofs.Tabulate.{tabulate-length, tabulate-all}
+use Rattle.word.specs.Words.{wordLimit, flipCount}
+use Rattle.word.specs.Repairs.{isBeyond, wordOf, patternOf, radius}
+use Rattle.word.proofs.Answer.{repaired-lt, repair-few, pattern-lt}
 use Rattle.air.specs.declared.RepairedWords.{RepairedWords}
 use Rattle.air.specs.Air.{wordCount}
-use Rattle.air.specs.WordRepairs.{repairAt, firstBeyond, repairedOf, flipsIn, repairWordsOf}
+use Rattle.air.specs.WordRepairs.{repairAt, firstBeyond, repairedOf, patternsIn, flipTotal, flipsIn, repairWordsOf}
 
 module _ (words : List ℕ) where
   pub beyond-le : firstBeyond words ≤ wordCount
@@ -27,11 +28,28 @@ module _ (words : List ℕ) where
   unfolding repairedOf
   repaired-words = tabulate-all (λ w. w < wordLimit) (λ j. wordOf (repairAt words j)) wordCount (lit< tt) (λ j h. repaired-lt (getD words j 0))
 
-  stopped : firstBeyond words < wordCount → repairWordsOf words ≡ record { words = replicate wordCount 0; flips = 0; beyond = firstBeyond words }
+  -- each pattern is "a 15-bit number with at most three ones", and the total is the ones of all
+  pub patterns-length : length (patternsIn words) ≡ wordCount
+  unfolding patternsIn
+  patterns-length = tabulate-length (λ j. patternOf (repairAt words j)) wordCount
+
+  pub patterns-lt : (k : ℕ) → getD (patternsIn words) k 0 < wordLimit
+  unfolding patternsIn
+  patterns-lt = tabulate-all (λ e. e < wordLimit) (λ j. patternOf (repairAt words j)) wordCount (lit< tt) (λ j h. pattern-lt (getD words j 0))
+
+  pub patterns-few : (k : ℕ) → flipCount (getD (patternsIn words) k 0) ≤ radius
+  unfolding patternsIn onesIn
+  patterns-few = tabulate-all (λ e. flipCount e ≤ radius) (λ j. patternOf (repairAt words j)) wordCount zero-le (λ j h. repair-few (getD words j 0))
+
+  pub flips-are-ones : flipsIn words ≡ flipTotal (patternsIn words)
+  unfolding flipsIn
+  flips-are-ones = refl
+
+  stopped : firstBeyond words < wordCount → repairWordsOf words ≡ record { words = replicate wordCount 0; patterns = replicate wordCount 0; flips = 0; beyond = firstBeyond words }
   unfolding repairWordsOf
   stopped h = rw (lt-ltb (firstBeyond words) wordCount h)
 
-  whole : wordCount ≤ firstBeyond words → repairWordsOf words ≡ record { words = repairedOf words; flips = flipsIn words; beyond = wordCount }
+  whole : wordCount ≤ firstBeyond words → repairWordsOf words ≡ record { words = repairedOf words; patterns = patternsIn words; flips = flipsIn words; beyond = wordCount }
   unfolding repairWordsOf
   whole h = rw (le-ltb (firstBeyond words) wordCount h)
 
@@ -45,6 +63,7 @@ module _ (words : List ℕ) where
   pub record AllRepaired (m : RepairedWords) : Type 0 where
     pub none-beyond : firstBeyond words ≡ wordCount
     pub all : m .words ≡ repairedOf words
+    pub patterned : m .patterns ≡ patternsIn words
     pub counted : m .flips ≡ flipsIn words
 
   pub told-all : (m : RepairedWords) → m ≡ repairWordsOf words → wordCount ≤ m .beyond → AllRepaired m
@@ -53,5 +72,6 @@ module _ (words : List ℕ) where
       record {
         none-beyond = omega (arith, beyond-le);
         all = ap (λ (x : RepairedWords). x .words) (is ∙ whole none);
+        patterned = ap (λ (x : RepairedWords). x .patterns) (is ∙ whole none);
         counted = ap (λ (x : RepairedWords). x .flips) (is ∙ whole none);
       }

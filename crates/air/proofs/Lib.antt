@@ -6,3 +6,4 @@ pub mod Answers
 pub mod Restored
 pub mod Flipped
 pub mod Bursts
+pub mod MostFlips

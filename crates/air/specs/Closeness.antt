@@ -3,8 +3,9 @@
 use mathlib.Core.Path.{_≡_}
 use mathlib.Core.List.{List}
 use Prim.Native.Nat.{ℕ, _<_, _≤_}
+use lib.Bits.{bitXor}
 use lib.ListN.{length, getD}
-use Rattle.base.specs.Lists.{sumTo}
+use Rattle.base.specs.Lists.{tabulate, sumTo}
 use Rattle.word.specs.Words.{Valid, distance}
 use Rattle.word.specs.Repairs.{radius}
 use Rattle.air.specs.Air.{wordCount}
@@ -19,6 +20,10 @@ pub record AllClose (words valid : List ℕ) : Type 0 where
   pub fourteen : ValidWords valid
   pub near : (j : ℕ) → j < wordCount → distance (getD words j 0) (getD valid j 0) ≤ radius
 
--- in how many places the words differ from these
+-- in which places the words differ from these
+abbrev pub differences : List ℕ → List ℕ → List ℕ
+differences words valid = tabulate wordCount (λ j. bitXor (getD words j 0) (getD valid j 0))
+
+-- and in how many
 abbrev pub distances : List ℕ → List ℕ → ℕ
 distances words valid = sumTo wordCount (λ j. distance (getD words j 0) (getD valid j 0))

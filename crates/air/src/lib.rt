@@ -1,5 +1,6 @@
 // A header on air: 210 bits to fourteen words and back, and the repair of the fourteen.
 use word::Repaired;
+use word::WORD_LIMIT;
 use word::table::TABLE_ROWS;
 ghost use mathlib.Core.Path.{_≡_};
 ghost use mathlib.Core.List.{_++_, foldl};
@@ -10,7 +11,8 @@ ghost use Rattle.base.specs.Lists.{AreBits};
 ghost use Rattle.word.specs.Repairs.{syndromes};
 ghost use Rattle.word.specs.Words.{positions};
 ghost use Rattle.air.specs.Air.{wordCount, airBits, wordAt, wordsOf, airOf, firstNoBit};
-ghost use Rattle.air.specs.WordRepairs.{repairWordsOf};
+ghost use Rattle.air.specs.WordRepairs.{repairWordsOf, worstOf};
+ghost use Rattle.word.specs.Words.{flipCount};
 
 // The words of a header.
 pub const WORD_COUNT: usize = 14;
@@ -24,9 +26,11 @@ pub const AIR_BITS: usize = 210;
 // The most bytes of a payload: "the field has 10 bits, so 1,023 is the limit"
 pub const LONGEST_PAYLOAD: usize = 1023;
 
-// Fourteen repaired words with the number of all their flips; or the lowest word beyond repair, and then all else is 0.
+// Fourteen repaired words and the flip pattern of each; or the lowest word beyond repair, and then all else is 0.
 pub struct RepairedWords {
     pub words: [u16; WORD_COUNT],
+    pub patterns: [u16; WORD_COUNT],
+    // The ones of all patterns.
     pub flips: u32,
     // The lowest word beyond repair; WORD_COUNT where there is none.
     pub beyond: usize,
@@ -128,17 +132,20 @@ pub fn repair_words(table: &[u16; TABLE_ROWS], words: [u16; WORD_COUNT]) -> Repa
     ensures { λ r. ⌜ r ≡ repairWordsOf words ⌝ }
 {
     let mut repaired = [0u16; WORD_COUNT];
+    let mut patterns = [0u16; WORD_COUNT];
     let mut total: u32 = 0;
     let mut j = 0;
     while j < WORD_COUNT {
         match word::repair_in(table, words[j]) {
             Repaired::Word { word, flips } => {
                 repaired[j] = word;
-                total += flips;
+                patterns[j] = flips;
+                total += u16::count_ones(flips);
             }
             Repaired::Beyond => {
                 return RepairedWords {
                     words: [0; WORD_COUNT],
+                    patterns: [0; WORD_COUNT],
                     flips: 0,
                     beyond: j,
                 };
@@ -148,7 +155,35 @@ pub fn repair_words(table: &[u16; TABLE_ROWS], words: [u16; WORD_COUNT]) -> Repa
     }
     RepairedWords {
         words: repaired,
+        patterns,
         flips: total,
         beyond: WORD_COUNT,
     }
+}
+
+// The flips of a pattern: its ones at the positions of a word.
+fn count(pattern: u16) -> u32
+    ensures { λ r. ⌜ r ≡ flipCount pattern ⌝ }
+{
+    u16::count_ones(pattern % WORD_LIMIT)
+}
+
+// The lowest word with the most flips.
+pub fn worst(patterns: [u16; WORD_COUNT]) -> usize
+    ensures { λ r. ⌜ r ≡ worstOf patterns ⌝ }
+{
+    let mut worst = 0;
+    let mut most: u32 = 0;
+    let mut j = 0;
+    while j < WORD_COUNT {
+        let flips = count(patterns[j]);
+        let here = j;
+        j += 1;
+        if flips <= most {
+            continue;
+        }
+        worst = here;
+        most = flips;
+    }
+    worst
 }

@@ -11,6 +11,7 @@ use lib.Count.{onesIn, ones, ones-step}
 use lib.Pow.{shr-lt, shr-shr}
 use Rattle.base.specs.Lists.{sumTo}
 use Rattle.base.proofs.Sums.{sum-none, sum-same}
+use Rattle.base.proofs.Bits.{bit-of-low}
 use Rattle.base.proofs.Doubles.{sum-cons}
 use Rattle.base.proofs.Xor.{xor-odd, xor-half, differ-le}
 
@@ -39,3 +40,7 @@ ones-sum (suc k) n =
 -- bit i of a sum
 pub xor-bit : (a b i : ℕ) → bitXor a b / 2 ^ i % 2 ≡ differ (a / 2 ^ i % 2) (b / 2 ^ i % 2)
 xor-bit a b i = ap (λ (x : ℕ). x % 2) (xor-shr a b i) ∙ xor-odd (a / 2 ^ i) (b / 2 ^ i)
+
+-- what stands above the k lowest bits is not counted
+pub ones-low : (k n : ℕ) → onesIn k (n % 2 ^ k) ≡ onesIn k n
+ones-low k n = ones-sum k (n % 2 ^ k) ∙ sum-same k _ _ (λ i h. bit-of-low n k i h) ∙ sym (ones-sum k n)

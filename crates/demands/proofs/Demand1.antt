@@ -7,7 +7,7 @@ use mathlib.Core.Path.{_≡_, ap, _∙_}
 use mathlib.Core.List.{List}
 use Prim.Native.Nat.{ℕ, _≤_, _<_}
 use lib.IntN.{ℤ}
-use lib.ListN.{length}
+use lib.ListN.{length, replicate}
 use Rattle.base.specs.declared.Refusal.{Refusal}
 use Rattle.base.specs.Checks.{Exactly, refusal}
 use Rattle.header.specs.declared.Fields.{Fields}
@@ -28,8 +28,9 @@ use Rattle.frame.specs.Frames.{Frame, frameChecks, frameOf}
 use Rattle.frame.proofs.Rules.{refused-exactly}
 use Rattle.sheet.specs.declared.Sheet.{Sheet}
 use Rattle.sheet.specs.Sheets.{heardOf, fullSheet, offerChecks, offerOf}
-use Rattle.sheet.proofs.Offering.{answers-frame, full-refuses}
+use Rattle.sheet.proofs.Offering.{answers-frame, full-refuses, offered-answer}
 use Rattle.sheet.proofs.Refusals.{offered-exactly, refused-keeps}
+use Rattle.air.specs.Air.{wordCount}
 
 -- 1 to 6
 pub header-refused-exactly : (s : Signal) (why : Refusal) → Exactly (readHeaderOf s) (Refused why) (signalChecks s)
@@ -40,7 +41,7 @@ pub frame-refused-exactly : (f : Frame) (why : Refusal) → Exactly (frameOf f) 
 frame-refused-exactly = refused-exactly
 
 -- 17, and then 1 to 8
-pub offer-refused-exactly : (sheet : Sheet) (f : Frame) (why : Refusal) → Exactly (offerOf sheet f .answer) (Refused why) (offerChecks sheet f)
+pub offer-refused-exactly : (sheet : Sheet) (f : Frame) (why : Refusal) → Exactly (offerOf sheet f .read .answer) (Refused why) (offerChecks sheet f)
 offer-refused-exactly = offered-exactly
 
 -- 13 to 15
@@ -69,13 +70,13 @@ pub rows-refused-unchanged : (rows : List ℤ) (before after : List ℕ) (r : Wr
 rows-refused-unchanged = rows-unchanged
 
 -- 17: "sheet full, checked before anything else, sheet unchanged (place 65,535)"
-pub offer-refused-full : (sheet : Sheet) (f : Frame) → fullSheet ≤ heardOf sheet → offerOf sheet f ≡ record { answer = Refused (refusal 17 fullSheet); sheet = sheet }
+pub offer-refused-full : (sheet : Sheet) (f : Frame) → fullSheet ≤ heardOf sheet → offerOf sheet f ≡ record { read = record { answer = Refused (refusal 17 fullSheet); patterns = replicate wordCount 0 }; sheet = sheet }
 offer-refused-full = full-refuses
 
 -- before that the sheet gives the frame's own answer
-pub offer-answers : (sheet : Sheet) (f : Frame) → heardOf sheet < fullSheet → offerOf sheet f .answer ≡ frameOf f
-offer-answers = answers-frame
+pub offer-answers : (sheet : Sheet) (f : Frame) → heardOf sheet < fullSheet → offerOf sheet f .read .answer ≡ frameOf f
+offer-answers sheet f room = offered-answer sheet f ∙ answers-frame sheet f room
 
 -- and an offered frame that is refused, whatever the number, leaves the frame records as they were
-pub offer-refused-unchanged : (sheet : Sheet) (f : Frame) (why : Refusal) → offerOf sheet f .answer ≡ Refused why → offerOf sheet f .sheet .sources ≡ sheet .sources
+pub offer-refused-unchanged : (sheet : Sheet) (f : Frame) (why : Refusal) → offerOf sheet f .read .answer ≡ Refused why → offerOf sheet f .sheet .sources ≡ sheet .sources
 offer-refused-unchanged = refused-keeps

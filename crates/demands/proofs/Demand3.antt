@@ -1,9 +1,11 @@
 -- DEMAND 3. "The repair table of 1,024 rows equals trying all 32 valid words on each of the 32,768 words. So a written header with at most
 -- three flips in each word, or a burst of up to 42 neighbouring bits, reads back as that very header with the exact number of flips."
+-- "Demand 3 now returns the exact pattern of every word."
 -- Assumes nothing.
 use mathlib.Core.Path.{_≡_}
+use mathlib.Core.Bool.{cond}
 use mathlib.Core.List.{List, []}
-use Prim.Native.Nat.{ℕ, _<_, _≤_}
+use Prim.Native.Nat.{ℕ, _+_, _*_, _/_, _%_, _^_, _<_, _≤_}
 use lib.Count.{onesIn}
 use lib.Dec.{leb, eqb}
 use lib.ListN.{length, getD, take}
@@ -14,13 +16,15 @@ use Rattle.word.specs.Repairs.{repairOf, remainderOf, syndromes, rowOf, byRow, 
 use Rattle.word.proofs.Rows.{rows-with-pattern, rows-marked}
 use Rattle.word.proofs.Answer.{table-answers}
 use Rattle.air.specs.Air.{wordCount, airBits}
-use Rattle.air.specs.Flips.{flipsBetween, flipsInWord, Burst}
+use Rattle.air.specs.WordRepairs.{flipTotal}
+use Rattle.air.specs.Flips.{differsAt, flipsBetween, flipsInWord, flipPatterns, Burst}
 use Rattle.header.specs.declared.Fields.{Fields}
 use Rattle.header.specs.declared.Answer.the-variants.{Accepted, Refused}
 use Rattle.base.specs.declared.Written.the-variants.{Done}
 use Rattle.header.specs.Writing.{headerFor, HeaderWritten}
 use Rattle.header.proofs.WrittenAir.{Put, written as put}
-use Rattle.frame.specs.Frames.{frame, frameOf}
+use Rattle.air.proofs.Flipped.{flipPatterns-bit, flipPatterns-total}
+use Rattle.frame.specs.Frames.{frame, frameOf, frameRead}
 use Rattle.frame.proofs.Damage.{restored-frame, restored-burst}
 use Rattle.demands.specs.Zeros.{sentZeros, burstZeros}
 use Rattle.demands.proofs.LongBurst.{burst-of-43}
@@ -41,13 +45,20 @@ module _ (f : Fields) (payload before after : List ℕ) (written : HeaderWritten
 
   -- "a written header with at most three flips in each word .. reads back as that very header with the exact number of flips"
   pub three-in-each-word : ((j : ℕ) → j < wordCount → flipsInWord air (take airBits after) j ≤ radius)
-      → frameOf (frame air payload) ≡ Accepted (headerFor f payload) (flipsBetween air (take airBits after))
+      → frameRead (frame air payload) ≡ record { answer = Accepted (headerFor f payload) (flipsBetween air (take airBits after)); patterns = flipPatterns air (take airBits after) }
   three-in-each-word = rw (so .air) (restored-frame f payload air bits (so .writable) long)
 
   -- "or a burst of up to 42 neighbouring bits"
   pub burst-of-42 : (start : ℕ) → Burst start air (take airBits after)
-      → frameOf (frame air payload) ≡ Accepted (headerFor f payload) (flipsBetween air (take airBits after))
+      → frameRead (frame air payload) ≡ record { answer = Accepted (headerFor f payload) (flipsBetween air (take airBits after)); patterns = flipPatterns air (take airBits after) }
   burst-of-42 = rw (so .air) (restored-burst f payload air bits (so .writable) long)
+
+-- "the exact pattern of every word": bit i of pattern j says whether air bit 14 i + j was flipped, and the ones are all flips
+pub pattern-bits : (x y : List ℕ) (i j : ℕ) → i < positions → j < wordCount → getD (flipPatterns x y) j 0 / 2 ^ i % 2 ≡ cond (differsAt x y (wordCount * i + j)) 1 0
+pattern-bits = flipPatterns-bit
+
+pub pattern-ones : (x y : List ℕ) → flipTotal (flipPatterns x y) ≡ flipsBetween x y
+pattern-ones = flipPatterns-total
 
 -- 42 is the limit: a header of zeros whose first 43 bits are flipped is refused
 pub not-43 : (flipsBetween (burstZeros 43) sentZeros ≡ 43) × (flipsInWord (burstZeros 43) sentZeros 0 ≡ 4) × (frameOf (frame (burstZeros 43) []) ≡ Refused (refusal 3 0))

@@ -12,12 +12,15 @@ use Rattle.word.specs.Repairs.{repairOf, syndromes}
 use Rattle.crc.specs.Crc.{crc13Of}
 use Rattle.air.specs.Air.{firstNoBit}
 use Rattle.header.specs.declared.Fields.{Fields}
+use Rattle.header.specs.declared.Read.{Read}
 use Rattle.header.specs.declared.Answer.{Answer}
+use Rattle.air.specs.WordRepairs.{worstOf}
 use Rattle.base.specs.declared.Written.{Written}
 use Rattle.header.specs.Fields.{satelliteOf, radioOf}
-use Rattle.header.specs.Reading.{signal, readHeaderOf}
+use Rattle.header.specs.Reading.{signal}
+use Rattle.header.specs.Patterns.{beside, headerRead}
 use Rattle.header.specs.Writing.{afterWrite, HeaderWritten}
-use Rattle.frame.specs.Frames.{frame, frameOf}
+use Rattle.frame.specs.Frames.{frame, frameRead}
 use Rattle.sheet.specs.declared.Source.{Source}
 use Rattle.sheet.specs.declared.Sheet.{Sheet}
 use Rattle.sheet.specs.declared.Offered.{Offered}
@@ -51,13 +54,19 @@ first-no-bit-one bytes r s = one
 pub crc13-one : (payload : List ℕ) (r s : ℕ) → r ≡ crc13Of payload → s ≡ crc13Of payload → r ≡ s
 crc13-one payload r s = one
 
+pub worst-one : (patterns : List ℕ) (r s : ℕ) → r ≡ worstOf patterns → s ≡ worstOf patterns → r ≡ s
+worst-one patterns r s = one
+
+pub with-patterns-one : (answer : Answer) (patterns : List ℕ) (r s : Read) → r ≡ beside patterns answer → s ≡ beside patterns answer → r ≡ s
+with-patterns-one answer patterns r s = one
+
 pub satellite-one : («src_id» r s : ℕ) → r ≡ satelliteOf «src_id» → s ≡ satelliteOf «src_id» → r ≡ s
 satellite-one «src_id» r s = one
 
 pub radio-one : («src_id» r s : ℕ) → r ≡ radioOf «src_id» → s ≡ radioOf «src_id» → r ≡ s
 radio-one «src_id» r s = one
 
-pub read-header-one : (air : List ℕ) (r s : Answer) → r ≡ readHeaderOf (signal air) → s ≡ readHeaderOf (signal air) → r ≡ s
+pub read-header-one : (air : List ℕ) (r s : Read) → r ≡ headerRead (signal air) → s ≡ headerRead (signal air) → r ≡ s
 read-header-one air r s = one
 
 -- the answer, and every byte of the output afterwards
@@ -67,7 +76,7 @@ write-header-one fields payload out r s out-r out-s a b =
     let answers : r ≡ s = one (a .answered) (b .answered) in
     (answers, a .bytes ∙ ap (λ (w : Written). afterWrite w fields payload out) answers ∙ sym (b .bytes))
 
-pub read-frame-one : (air payload : List ℕ) (r s : Answer) → r ≡ frameOf (frame air payload) → s ≡ frameOf (frame air payload) → r ≡ s
+pub read-frame-one : (air payload : List ℕ) (r s : Read) → r ≡ frameRead (frame air payload) → s ≡ frameRead (frame air payload) → r ≡ s
 read-frame-one air payload r s = one
 
 pub read-page-one : (payload : List ℕ) (r s : PageAnswer) → r ≡ pageOf payload → s ≡ pageOf payload → r ≡ s

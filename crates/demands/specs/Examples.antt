@@ -34,12 +34,13 @@ AllHold (e ∷ es) = Holds e × AllHold es
 
 abbrev pub examples : List Example
 examples =
-    -- "word 0 stays, 0 flips; 0x537 and 0x7FFF stay; 0x0007 becomes 0 with 3; 0x0017 becomes 0x537 with 3; 0x000F is beyond repair"
+    -- "word 0 stays, 0 flips; 0x537 and 0x7FFF stay; 0x0007 becomes 0 with 3; 0x0017 becomes 0x537 with 3; 0x000F is beyond repair",
+    -- each with its flip pattern
     word-becomes 0 (Word 0 0)
     ∷ word-becomes 0x537 (Word 0x537 0)
     ∷ word-becomes 0x7FFF (Word 0x7FFF 0)
-    ∷ word-becomes 0x0007 (Word 0 3)
-    ∷ word-becomes 0x0017 (Word 0x537 3)
+    ∷ word-becomes 0x0007 (Word 0 0x0007)
+    ∷ word-becomes 0x0017 (Word 0x537 0x0520)
     ∷ word-becomes 0x000F Beyond
     -- "header bit 0 travels at air bit 196, bit 69 at 153"
     ∷ bit-travels-at 0 196

@@ -12,7 +12,9 @@ fn main() {
     let mut bytes = io::buffer();
     let bits = io::read_full(STDIN_FILENO, &mut air);
     let len = io::read_full(STDIN_FILENO, &mut bytes);
-    match frame::read_frame(&air[..bits], &bytes[..len]) {
+    let read = frame::read_frame(&air[..bits], &bytes[..len]);
+    let answer = read.answer;
+    match answer {
         Answer::Accepted { header, flips } => {
             let letter = b'A' + header::satellite(header.fields.src_id);
             say(b"S-NET ");

@@ -6,28 +6,30 @@ use lib.ListN.{getD}
 use Rattle.base.specs.declared.Refusal.{Refusal}
 use Rattle.base.proofs.Numbers.{Among, numbers, first-number}
 use Rattle.base.proofs.Sums.{sum-le}
-use Rattle.word.specs.Words.{distance}
+use Rattle.word.specs.Words.{flipCount}
 use Rattle.word.specs.Repairs.{radius}
-use Rattle.air.specs.Air.{wordCount, wordsOf}
+use Rattle.air.specs.Air.{wordCount}
+use Rattle.air.proofs.Answers.{patterns-few}
 use Rattle.air.specs.Flips.{mostFlips}
 use Rattle.header.specs.declared.Header.{Header}
 use Rattle.header.specs.declared.Answer.{Answer}
 use Rattle.header.specs.declared.Answer.the-variants.{Accepted, Refused}
 use Rattle.header.specs.Fields.{lastSource}
-use Rattle.header.specs.Reading.{repairedAnswer}
+use Rattle.header.specs.Reading.{arrived, repairedAnswer}
+use Rattle.header.specs.Patterns.{patternsOf}
 use Rattle.header.proofs.GoesOn.{not-refused}
 use Rattle.frame.specs.Frames.{Frame, frameChecks, frameNumbers, frameOf}
-use Rattle.frame.proofs.Rules.{reader-then-rules}
+use Rattle.frame.proofs.Rules.{answer-then-rules}
 
 module _ (f : Frame) (h : Header) (k : ℕ) (e : frameOf f ≡ Accepted h k) where
   pub frame-source : h .«fields» .«src_id» ≤ lastSource
-  frame-source = reader-then-rules f h k e .known-source
+  frame-source = answer-then-rules f h k e .known-source
 
   -- three flips in each of fourteen words
   pub frame-flips : k ≤ mostFlips
   frame-flips =
-      let so = reader-then-rules f h k e in
-      rw (so .counted) (sum-le radius wordCount (λ j. distance (getD (wordsOf (f .head .air)) j 0) (getD (so .words) j 0)) (so .close .near))
+      let so = answer-then-rules f h k e in
+      rw (so .counted) (sum-le radius wordCount (λ j. flipCount (getD (patternsOf (f .head)) j 0)) (λ j below. patterns-few (arrived (f .head)) j))
 
 -- the number of a refusal; 0 where there is none
 abbrev numberIn : Answer → ℕ

@@ -1,5 +1,5 @@
 -- Damage undone: "a written header with at most three flips in each word, or a burst of up to 42 neighbouring bits, reads back as that very
--- header with the exact number of flips".
+-- header with the exact number of flips", and with the exact pattern of every word.
 -- Assumes nothing.
 use mathlib.Core.Path.{_≡_, refl, sym, ap, ap₂, _∙_}
 use mathlib.Core.List.{List}
@@ -10,21 +10,23 @@ use Rattle.base.proofs.Sums.{sum-same}
 use Rattle.word.specs.Words.{distance}
 use Rattle.word.specs.Repairs.{radius}
 use Rattle.air.specs.Air.{wordCount, airBits, wordsOf}
-use Rattle.air.specs.Closeness.{AllClose, distances}
-use Rattle.air.specs.Flips.{flipsBetween, flipsInWord, Burst}
-use Rattle.air.proofs.Places.{words-at}
-use Rattle.air.proofs.Flipped.{word-flips, all-flips}
+use Rattle.air.specs.Closeness.{AllClose, differences, distances}
+use Rattle.air.specs.Flips.{flipsBetween, flipsInWord, flipPatterns, Burst}
+use Rattle.air.proofs.Places.{words-at, words-lt}
+use Rattle.air.proofs.Restored.{restored-patterns}
+use Rattle.air.proofs.Flipped.{word-flips, all-flips, all-patterns}
 use Rattle.air.proofs.Bursts.{burst-few}
 use Rattle.header.specs.declared.Fields.{Fields}
 use Rattle.header.specs.declared.Answer.the-variants.{Accepted}
 use Rattle.header.specs.Fields.{codedOf}
 use Rattle.header.specs.Writing.{bitsFor, headerFor, airFor}
 use Rattle.header.specs.Reading.{signal}
+use Rattle.header.specs.Patterns.{beside}
 use Rattle.header.proofs.Passed.{Writable}
 use Rattle.header.proofs.GoesOn.{ReadAs}
 use Rattle.header.proofs.Carried.{coded-valid}
 use Rattle.header.proofs.RoundTrip.{written-words, written-are-bits, header-restored}
-use Rattle.frame.specs.Frames.{Frame, frame, frameOf}
+use Rattle.frame.specs.Frames.{Frame, frame, frameOf, frameRead}
 use Rattle.frame.proofs.Payloads.{frame-reads}
 
 -- a header that was written for the frame's payload is accepted with it
@@ -50,13 +52,21 @@ module _ (f : Fields) (payload air : List ℕ) (bits : AreBits air) where
   pub damaged-flips : distances (wordsOf air) words ≡ flipsBetween air sent
   damaged-flips = sum-same wordCount _ _ distance-at ∙ all-flips air sent
 
+  -- and which they are
+  damaged-patterns : differences (wordsOf air) words ≡ flipPatterns air sent
+  damaged-patterns = ap (differences (wordsOf air)) (sym (written-words f payload)) ∙ all-patterns air sent bits (written-are-bits f payload)
+
   module _ (ok : Writable f payload) (long : length air ≡ airBits) where
     -- at most three flips in each word
-    pub restored-frame : ((j : ℕ) → j < wordCount → flipsInWord air (airFor f payload) j ≤ radius) → frameOf (frame air payload) ≡ Accepted (headerFor f payload) (flipsBetween air (airFor f payload))
+    pub restored-frame : ((j : ℕ) → j < wordCount → flipsInWord air (airFor f payload) j ≤ radius)
+        → frameRead (frame air payload) ≡ record { answer = Accepted (headerFor f payload) (flipsBetween air (airFor f payload)); patterns = flipPatterns air (airFor f payload) }
+    unfolding frameRead
     restored-frame few =
-        with-payload f (frame air payload) (flipsBetween air sent)
-        (rw damaged-flips at (header-restored f payload ok (signal air) long bits (damaged-close few)))
+        ap₂ beside (restored-patterns (wordsOf air) (words-lt air bits) words (damaged-close few) ∙ damaged-patterns)
+        (with-payload f (frame air payload) (flipsBetween air sent)
+        (rw damaged-flips at (header-restored f payload ok (signal air) long bits (damaged-close few))))
 
     -- a burst: all flips among 42 neighbouring bits
-    pub restored-burst : (start : ℕ) → Burst start air (airFor f payload) → frameOf (frame air payload) ≡ Accepted (headerFor f payload) (flipsBetween air (airFor f payload))
+    pub restored-burst : (start : ℕ) → Burst start air (airFor f payload)
+        → frameRead (frame air payload) ≡ record { answer = Accepted (headerFor f payload) (flipsBetween air (airFor f payload)); patterns = flipPatterns air (airFor f payload) }
     restored-burst start burst = restored-frame (burst-few start air (airFor f payload) burst)

@@ -3,7 +3,7 @@
 use mathlib.Core.Path.{_≡_, refl, sym, ap₂, _∙_}
 use mathlib.Core.List.{List, [], _∷_}
 use Prim.Native.Nat.{ℕ}
-use lib.ListN.{length}
+use lib.ListN.{length, replicate}
 use borrow.Author.Needs.{needs}
 use borrow.Author.Tests.{eq-eqb, ne-eqb}
 use Rattle.base.specs.declared.Refusal.{Refusal}
@@ -12,11 +12,15 @@ use Rattle.base.proofs.First.{NoneApplies, none-split, first-passes}
 use Rattle.base.proofs.Tests.{not-differs}
 use Rattle.crc.specs.Crc.{crc13Of}
 use Rattle.header.specs.declared.Header.{Header}
+use Rattle.header.specs.declared.Read.{Read}
 use Rattle.header.specs.declared.Answer.{Answer}
 use Rattle.header.specs.declared.Answer.the-variants.{Accepted, Refused}
+use Rattle.air.specs.Air.{wordCount}
 use Rattle.header.specs.Reading.{signal, signalChecks, repairedAnswer, readHeaderOf}
+use Rattle.header.specs.Patterns.{beside, patternsOf, headerRead}
+use Rattle.header.proofs.Beside.{beside-refused, read-answer, read-patterns}
 use Rattle.header.proofs.GoesOn.{no-row, ReadAs, read-as, header-refused, header-leaves}
-use Rattle.frame.specs.Frames.{Frame, frame, repairedHeader, crc13Differs, payloadChecks, frameChecks, frameOf}
+use Rattle.frame.specs.Frames.{Frame, frame, repairedHeader, crc13Differs, payloadChecks, frameChecks, frameOf, frameRead}
 
 module _ (h : Header) (flips : ℕ) (payload : List ℕ) where
   abbrev judged : Answer
@@ -77,10 +81,18 @@ module _ (f : Frame) where
         let same : repairedHeader f ≡ h = cc (passed .0) in
         record { header = record { is = passed .0; passed = parts .0 }; payload = rw same at (payload-passed (repairedHeader f) (f .payload) (parts .1)) }
 
--- THE SAME, as the reader finds it: a is the header's answer, and r what is judged of the payload
-module _ (air payload : List ℕ) (a : Answer) (is : a ≡ readHeaderOf (signal air)) where
-  pub frame-refused : (why : Refusal) → a ≡ Refused why → Refused why ≡ frameOf (frame air payload)
-  frame-refused why e = sym (refused-head (frame air payload) why (sym is ∙ e))
+-- THE SAME, as the reader finds it: r is what was read of the header, and judged what is judged of the payload
+module _ (air payload : List ℕ) (read : Read) (is : read ≡ headerRead (signal air)) where
+  pub frame-refused : (why : Refusal) → read .answer ≡ Refused why → _≡_ {A = Read} (record { answer = Refused why; patterns = replicate wordCount 0 }) (frameRead (frame air payload))
+  unfolding frameRead
+  frame-refused why e =
+      beside-refused (patternsOf (signal air)) (frameOf (frame air payload)) why
+      (refused-head (frame air payload) why (sym (read-answer (signal air) read is) ∙ e))
 
-  pub frame-left : (h : Header) (k : ℕ) (r : Answer) → a ≡ Accepted h k → r ≡ first (Accepted h k) (payloadChecks h payload) → r ≡ frameOf (frame air payload)
-  frame-left h k r e judged = judged ∙ sym (left-to-payload (frame air payload) h k (read-as (signal air) h k (sym is ∙ e)))
+  pub frame-left : (h : Header) (k : ℕ) (judged : Answer) (r : Read) → read .answer ≡ Accepted h k → judged ≡ first (Accepted h k) (payloadChecks h payload)
+      → r ≡ beside (read .patterns) judged → r ≡ frameRead (frame air payload)
+  unfolding frameRead
+  frame-left h k judged r e so made =
+      made
+      ∙ ap₂ beside (read-patterns (signal air) read is h k e)
+      (so ∙ sym (left-to-payload (frame air payload) h k (read-as (signal air) h k (sym (read-answer (signal air) read is) ∙ e))))

@@ -3,29 +3,44 @@
 use mathlib.Core.Path.{_≡_, sym, ap, _∙_}
 use mathlib.Core.List.{List}
 use Prim.Native.Nat.{ℕ}
-use Rattle.air.specs.Air.{wordsOf}
+use lib.ListN.{replicate}
+use Rattle.air.specs.Air.{wordCount, wordsOf}
+use Rattle.air.specs.WordRepairs.{patternsIn, flipTotal}
 use Rattle.air.specs.Closeness.{distances}
+use Rattle.air.proofs.Restored.{distances-are, restored-patterns, close-self, differences-self}
 use Rattle.air.specs.Flips.{flipsBetween}
 use Rattle.air.proofs.Flipped.{no-flips}
 use Rattle.header.specs.declared.Fields.{Fields}
-use Rattle.header.specs.Writing.{headerFor, airFor}
+use Rattle.header.specs.Fields.{codedOf}
+use Rattle.header.specs.Reading.{signal}
+use Rattle.header.specs.Patterns.{patternsOf}
+use Rattle.header.specs.Writing.{bitsFor, headerFor, airFor}
 use Rattle.header.proofs.Passed.{Writable}
-use Rattle.header.proofs.RoundTrip.{air-for-length, header-read-back}
+use Rattle.header.proofs.Carried.{coded-valid, valid-words}
+use Rattle.header.proofs.RoundTrip.{air-for-length, written-words, header-read-back}
 use Rattle.header.proofs.WrittenAir.{words-only}
 use Rattle.frame.specs.Frames.{frame}
 use Rattle.frame.specs.Accepting.{Accepts}
-use Rattle.frame.proofs.Rules.{reader-then-rules}
+use Rattle.frame.proofs.Rules.{answer-then-rules}
 use Rattle.frame.proofs.Damage.{with-payload, damaged-flips}
 
 module _ (f : Fields) (payload : List ℕ) where
-  pub written-accepted : Writable f payload → Accepts (frame (airFor f payload) payload) (headerFor f payload) 0
-  written-accepted ok =
-      let sent = frame (airFor f payload) payload in
-      reader-then-rules sent (headerFor f payload) 0 (with-payload f sent 0 (header-read-back f payload ok))
+  abbrev sent : List ℕ
+  sent = airFor f payload
 
-  pub only-written : (air : List ℕ) → Accepts (frame air payload) (headerFor f payload) 0 → air ≡ airFor f payload
+  -- nothing was flipped
+  none-flipped : patternsOf (signal sent) ≡ replicate wordCount 0
+  none-flipped =
+      let coded : List ℕ = codedOf (bitsFor f payload) in
+      ap patternsIn (written-words f payload) ∙ restored-patterns coded (valid-words coded (coded-valid (bitsFor f payload))) coded (close-self coded (coded-valid (bitsFor f payload))) ∙ differences-self coded
+
+  pub written-accepted : Writable f payload → Accepts (frame (airFor f payload) payload) (headerFor f payload) 0 (replicate wordCount 0)
+  written-accepted ok =
+      rw none-flipped at (answer-then-rules (frame sent payload) (headerFor f payload) 0 (with-payload f (frame sent payload) 0 (header-read-back f payload ok)))
+
+  pub only-written : (air : List ℕ) → Accepts (frame air payload) (headerFor f payload) 0 (replicate wordCount 0) → air ≡ airFor f payload
   only-written air so =
       let words = words-only f payload (so .words) (so .close .fourteen) (so .made) in
       let none : flipsBetween air (airFor f payload) ≡ 0 =
-      sym (damaged-flips f payload air (so .bits)) ∙ ap (distances (wordsOf air)) (sym words) ∙ sym (so .counted) in
+      sym (damaged-flips f payload air (so .bits)) ∙ ap (distances (wordsOf air)) (sym words) ∙ distances-are (wordsOf air) (so .words) ∙ sym (ap flipTotal (so .patterned)) ∙ sym (so .counted) in
       no-flips air (airFor f payload) (so .long) (air-for-length f payload) none

@@ -1,4 +1,4 @@
--- DEMAND 2, as a statement of its own: which frames "the published rules accept", with which header and how many flips.
+-- DEMAND 2, as a statement of its own: which frames "the published rules accept", with which header, how many flips and which.
 -- It is written from the paper's rules, and names no reader.
 -- Assumes nothing.
 use mathlib.Core.Path.{_≡_}
@@ -9,12 +9,13 @@ use Rattle.base.specs.Lists.{AreBits}
 use Rattle.crc.specs.Crc.{crc13Of}
 use Rattle.crc.specs.Crc5.{crc5Of}
 use Rattle.air.specs.Air.{airBits, wordsOf}
-use Rattle.air.specs.Closeness.{AllClose, distances}
+use Rattle.air.specs.WordRepairs.{flipTotal}
+use Rattle.air.specs.Closeness.{AllClose, differences}
 use Rattle.header.specs.declared.Header.{Header}
 use Rattle.header.specs.Fields.{lastSource, lastCoding, headerOf, bitsOfWords}
 use Rattle.frame.specs.Frames.{Frame}
 
-pub record Accepts (f : Frame) (header : Header) (flips : ℕ) : Type 0 where
+pub record Accepts (f : Frame) (header : Header) (flips : ℕ) (patterns : List ℕ) : Type 0 where
   -- "The header arrives as 210 bytes, each 0 or 1."
   pub long : length (f .head .air) ≡ airBits
   pub bits : AreBits (f .head .air)
@@ -29,5 +30,6 @@ pub record Accepts (f : Frame) (header : Header) (flips : ℕ) : Type 0 where
   pub known-coding : header .«fields» .«ai_type_src» ≤ lastCoding
   pub same-length : length (f .payload) ≡ header .«pdu_length»
   pub same-crc13 : crc13Of (f .payload) ≡ header .«crc13»
-  -- the flips are the places in which the words differ from those that they became
-  pub counted : flips ≡ distances (wordsOf (f .head .air)) words
+  -- the patterns are the places in which the words differ from those that they became, "the total being their ones"
+  pub patterned : patterns ≡ differences (wordsOf (f .head .air)) words
+  pub counted : flips ≡ flipTotal patterns

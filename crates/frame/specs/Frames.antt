@@ -1,4 +1,4 @@
--- A frame, read: refused with 1 to 8, or the repaired header and the number of flips.
+-- A frame, read: refused with 1 to 8, or the repaired header and the number of flips, with the patterns beside it.
 -- Assumes nothing.
 use mathlib.Core.Bool.{not}
 use mathlib.Core.List.{List, [], _∷_, _++_}
@@ -8,10 +8,12 @@ use lib.ListN.{length}
 use Rattle.base.specs.Checks.{Check, check, first, refusal}
 use Rattle.crc.specs.Crc.{crc13Of}
 use Rattle.header.specs.declared.Header.{Header}
+use Rattle.header.specs.declared.Read.{Read}
 use Rattle.header.specs.declared.Answer.{Answer}
 use Rattle.header.specs.declared.Answer.the-variants.{Refused}
 use Rattle.header.specs.Fields.{headerOf}
 use Rattle.header.specs.Reading.{Signal, signal, repairedBits, signalChecks, repairedAnswer}
+use Rattle.header.specs.Patterns.{beside, patternsOf}
 
 -- a frame as it is offered: what its header is read from, and its payload
 pub record Frame : Type 0 where
@@ -48,3 +50,7 @@ frameNumbers = 1 ∷ 2 ∷ 3 ∷ 4 ∷ 5 ∷ 6 ∷ 7 ∷ 8 ∷ []
 -- "Frame, in this order; the first that applies is given"
 unfoldable pub frameOf : Frame → Answer
 frameOf f = first (repairedAnswer (f .head)) (frameChecks f)
+
+-- the answer, and the patterns of the frame's words beside it
+unfoldable pub frameRead : Frame → Read
+frameRead f = beside (patternsOf (f .head)) (frameOf f)

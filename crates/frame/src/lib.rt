@@ -1,14 +1,16 @@
 // A frame: header and payload together.
+use air::WORD_COUNT;
 use base::CRC13_DIFFERS;
 use base::OTHER_LENGTH;
 use base::Refusal;
 use header::Answer;
 use header::Header;
+use header::Read;
 use word::table::TABLE_ROWS;
 ghost use mathlib.Core.Path.{_≡_};
 ghost use Rattle.base.specs.Checks.{first};
 ghost use Rattle.word.specs.Repairs.{syndromes};
-ghost use Rattle.frame.specs.Frames.{frame, payloadChecks, frameOf};
+ghost use Rattle.frame.specs.Frames.{frame, payloadChecks, frameRead};
 
 // Checks 7 and 8 on the payload of an accepted header.
 fn judge_payload(header: Header, flips: u32, payload: &[u8]) -> Answer
@@ -32,20 +34,28 @@ fn judge_payload(header: Header, flips: u32, payload: &[u8]) -> Answer
 }
 
 // The reader, by a lent copy of the syndrome table: what a caller with many frames copies once.
-pub fn read_frame_in(table: &[u16; TABLE_ROWS], air: &[u8], payload: &[u8]) -> Answer
+pub fn read_frame_in(table: &[u16; TABLE_ROWS], air: &[u8], payload: &[u8]) -> Read
     requires { ⌜ now table ≡ syndromes ⌝ }
-    ensures { λ r. ⌜ r ≡ frameOf (frame (now (air .entry)) (now (payload .entry))) ⌝ }
+    ensures { λ r. ⌜ r ≡ frameRead (frame (now (air .entry)) (now (payload .entry))) ⌝ }
 {
-    match header::read_header_in(table, air) {
-        Answer::Refused(why) => Answer::Refused(why),
-        Answer::Accepted { header, flips } => judge_payload(header, flips, payload),
+    let read = header::read_header_in(table, air);
+    let answer = read.answer;
+    match answer {
+        Answer::Refused(why) => Read {
+            answer: Answer::Refused(why),
+            patterns: [0; WORD_COUNT],
+        },
+        Answer::Accepted { header, flips } => {
+            let patterns = read.patterns;
+            header::with_patterns(judge_payload(header, flips, payload), patterns)
+        }
     }
 }
 
-// The reader of any two slices: accepted with the repaired header and the number of flips, or the first refusal of 1 to 8.
+// The reader of any two slices: accepted with the repaired header, the number of flips and the patterns, or the first refusal of 1 to 8.
 // A checksum that differs is a refusal, so it is never told beside an accepted frame.
-pub fn read_frame(air: &[u8], payload: &[u8]) -> Answer
-    ensures { λ r. ⌜ r ≡ frameOf (frame (now (air .entry)) (now (payload .entry))) ⌝ }
+pub fn read_frame(air: &[u8], payload: &[u8]) -> Read
+    ensures { λ r. ⌜ r ≡ frameRead (frame (now (air .entry)) (now (payload .entry))) ⌝ }
 {
     let table = word::table::whole();
     read_frame_in(&table, air, payload)

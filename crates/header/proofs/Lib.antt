@@ -3,6 +3,7 @@ pub mod WordData
 pub mod Passed
 pub mod Judging
 pub mod Rows
+pub mod Beside
 pub mod Ranges
 pub mod Coding
 pub mod Packing

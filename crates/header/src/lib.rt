@@ -2,6 +2,7 @@
 mod reading;
 mod writing;
 
+use air::WORD_COUNT;
 use base::Refusal;
 pub use reading::read_header;
 pub use reading::read_header_in;
@@ -9,6 +10,7 @@ pub use writing::write_header;
 ghost use mathlib.Core.Path.{_≡_};
 ghost use Prim.Native.Nat.{_+_};
 ghost use Rattle.header.specs.Fields.{satelliteOf, radioOf};
+ghost use Rattle.header.specs.Patterns.{beside};
 
 // The last SrcId and the last AiTypeSrc that are not refused.
 pub const LAST_SOURCE: u8 = 7;
@@ -44,10 +46,33 @@ pub struct Header {
     pub crc5: u8,
 }
 
-// The repaired header and the number of flips, or the refusal: the answer to a header alone, and to a whole frame.
+// The repaired header and the number of flips, or the refusal: what is answered of a header alone, and of a whole frame.
 pub enum Answer {
     Accepted { header: Header, flips: u32 },
     Refused(Refusal),
+}
+
+// An answer, and beside it the flip pattern of each word: bit i of pattern j is set where position i of word j was flipped. The
+// accepted answer's flips are the patterns' ones; beside a refusal all fourteen are 0.
+pub struct Read {
+    pub answer: Answer,
+    pub patterns: [u16; WORD_COUNT],
+}
+
+// An answer with the patterns of the words that it was read from.
+pub fn with_patterns(answer: Answer, patterns: [u16; WORD_COUNT]) -> Read
+    ensures { λ r. ⌜ r ≡ beside patterns answer ⌝ }
+{
+    match answer {
+        Answer::Accepted { header, flips } => Read {
+            answer: Answer::Accepted { header, flips },
+            patterns,
+        },
+        Answer::Refused(why) => Read {
+            answer: Answer::Refused(why),
+            patterns: [0; WORD_COUNT],
+        },
+    }
 }
 
 // The satellite of a source: A to D are 0 to 3.

@@ -4,6 +4,8 @@ use crate::Fields;
 use crate::Header;
 use crate::LAST_CODING;
 use crate::LAST_SOURCE;
+use crate::Read;
+use crate::with_patterns;
 use air::AIR_BITS;
 use air::WORD_COUNT;
 use base::BEYOND_REPAIR;
@@ -20,13 +22,14 @@ ghost use mathlib.Core.List.{map};
 ghost use Prim.Native.Nat.{ℕ, _+_, _*_, _<_, _≤_, _^_};
 ghost use lib.ListN.{length, getD, replicate};
 ghost use Rattle.base.specs.Lists.{AreBits};
-ghost use Rattle.base.specs.Checks.{first};
+ghost use Rattle.base.specs.Checks.{first, refusal};
 ghost use Rattle.base.specs.Parts.{joined};
 ghost use Rattle.word.specs.Words.{wordLimit, dataOf};
 ghost use Rattle.word.specs.Repairs.{syndromes};
-ghost use Rattle.air.specs.Air.{airBits};
+ghost use Rattle.air.specs.Air.{wordCount, airBits};
 ghost use Rattle.header.specs.Fields.{headerOf, bitsOfWords};
-ghost use Rattle.header.specs.Reading.{signal, headerChecks, readHeaderOf};
+ghost use Rattle.header.specs.Reading.{signal, headerChecks};
+ghost use Rattle.header.specs.Patterns.{beside, headerRead};
 ghost use Rattle.crc.specs.Halves.{headerBits, hiWidth, loWidth};
 
 // The fields of header bits 0 to 29, `hi`, and 30 to 69, `lo`.
@@ -120,51 +123,53 @@ fn judge_words(words: [u16; WORD_COUNT], flips: u32) -> Answer
     judge(hi, lo, flips)
 }
 
+// A refusal, with no patterns.
+fn refused(number: u8, place: usize) -> Read
+    ensures { λ r. ⌜ r ≡ beside (replicate wordCount 0) (Answer.Refused (refusal number place)) ⌝ }
+{
+    Read {
+        answer: Answer::Refused(Refusal { number, place }),
+        patterns: [0; WORD_COUNT],
+    }
+}
+
 // Checks 3 to 6 on 210 air bits.
-fn read_bits(table: &[u16; TABLE_ROWS], air: &[u8]) -> Answer
+fn read_bits(table: &[u16; TABLE_ROWS], air: &[u8]) -> Read
     requires { ⌜ now table ≡ syndromes ⌝ }
     requires { ⌜ length (now air) ≡ airBits ⌝ }
     requires { ⌜ AreBits (now air) ⌝ }
-    ensures { λ r. ⌜ r ≡ readHeaderOf (signal (now (air .entry))) ⌝ }
+    ensures { λ r. ⌜ r ≡ headerRead (signal (now (air .entry))) ⌝ }
 {
     let repaired = air::repair_words(table, air::words(air));
     let beyond = repaired.beyond;
     if beyond < WORD_COUNT {
-        return Answer::Refused(Refusal {
-            number: BEYOND_REPAIR,
-            place: beyond,
-        });
+        return refused(BEYOND_REPAIR, beyond);
     }
     let words = repaired.words;
     let flips = repaired.flips;
-    judge_words(words, flips)
+    let patterns = repaired.patterns;
+    with_patterns(judge_words(words, flips), patterns)
 }
 
 // The reader of a header alone, by a lent copy of the syndrome table: what a caller with many headers copies once.
-pub fn read_header_in(table: &[u16; TABLE_ROWS], air: &[u8]) -> Answer
+pub fn read_header_in(table: &[u16; TABLE_ROWS], air: &[u8]) -> Read
     requires { ⌜ now table ≡ syndromes ⌝ }
-    ensures { λ r. ⌜ r ≡ readHeaderOf (signal (now (air .entry))) ⌝ }
+    ensures { λ r. ⌜ r ≡ headerRead (signal (now (air .entry))) ⌝ }
 {
     let n = air.len();
     if n != AIR_BITS {
-        return Answer::Refused(Refusal {
-            number: NOT_210_LONG,
-            place: n,
-        });
+        return refused(NOT_210_LONG, n);
     }
     let at = air::first_no_bit(air);
     if at < AIR_BITS {
-        return Answer::Refused(Refusal {
-            number: NO_BIT,
-            place: at,
-        });
+        return refused(NO_BIT, at);
     }
     read_bits(table, air)
 }
 
-// The reader of a header alone, of any bytes: the repaired header and the number of flips, or the first refusal of 1 to 6.
-pub fn read_header(air: &[u8]) -> Answer
-    ensures { λ r. ⌜ r ≡ readHeaderOf (signal (now (air .entry))) ⌝ }
+// The reader of a header alone, of any bytes: the repaired header, the number of flips and the patterns, or the first refusal of 1 to 6.
+pub fn read_header(air: &[u8]) -> Read
+    ensures { λ r. ⌜ r ≡ headerRead (signal (now (air .entry))) ⌝ }
 {
     let table = word::table::whole();
     read_header_in(&table, air)

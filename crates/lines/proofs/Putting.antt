@@ -8,12 +8,14 @@ use Rattle.base.specs.declared.Refusal.{Refusal}
 use Rattle.text.specs.Text.{ascii, decimalOf, Put}
 use Rattle.text.proofs.Laid.{put-then, put-three}
 use Rattle.header.specs.declared.Header.{Header}
+use Rattle.air.specs.WordRepairs.{worstOf}
+use Rattle.header.specs.declared.Read.{Read}
 use Rattle.header.specs.declared.Answer.{Answer}
 use Rattle.header.specs.declared.Answer.the-variants.{Accepted, Refused}
 use Rattle.header.specs.Fields.{radioOf}
 use Rattle.sheet.specs.declared.Sheet.{Sheet}
 use Rattle.sheet.specs.Sheets.{acceptedOf, refusedOf, heardOf}
-use Rattle.lines.specs.Lines.{fieldOf, title, letterOf, speakerOf, acceptedLine, refusedLine, lineOf, lastLine, cutLine, closingOf, openingOf}
+use Rattle.lines.specs.Lines.{fieldOf, title, letterOf, speakerOf, acceptedLine, refusedLine, lineOf, lastLine, cutLine, closingOf, openingOf, damageOf}
 
 module _ {l m : List ℕ} {at next : ℕ} where
   -- the first line
@@ -22,12 +24,12 @@ module _ {l m : List ℕ} {at next : ℕ} where
   put-title put = put
 
   -- the line of an accepted record, and of a refused one
-  pub line-accepted : (k bytes : ℕ) (a : Answer) (h : Header) (flips : ℕ) → a ≡ Accepted h flips
-      → Put l at (acceptedLine k (h .«fields» .«src_id») (h .«fields» .«fr_cnt_tx») flips bytes) m next → Put l at (lineOf k bytes a) m next
-  line-accepted k bytes a h flips e put = rw e put
+  pub line-accepted : (k bytes : ℕ) (r : Read) (h : Header) (flips worst : ℕ) → r .answer ≡ Accepted h flips → worst ≡ worstOf (r .patterns)
+      → Put l at (acceptedLine k (h .«fields» .«src_id») (h .«fields» .«fr_cnt_tx») flips worst bytes) m next → Put l at (lineOf k bytes r) m next
+  line-accepted k bytes r h flips worst e found put = rw (e, ← found) put
 
-  pub line-refused : (k bytes : ℕ) (a : Answer) (why : Refusal) → a ≡ Refused why → Put l at (refusedLine k why) m next → Put l at (lineOf k bytes a) m next
-  line-refused k bytes a why e put = rw e put
+  pub line-refused : (k bytes : ℕ) (r : Read) (why : Refusal) → r .answer ≡ Refused why → Put l at (refusedLine k why) m next → Put l at (lineOf k bytes r) m next
+  line-refused k bytes r why e put = rw e put
 
   -- the closing without `cut`
   pub closing-whole : (sheet : Sheet) (cut : Bool) → cut ≡ false → Put l at (lastLine sheet) m next → Put l at (closingOf sheet cut) m next
@@ -44,15 +46,10 @@ pub put-speaker : {l m n o : List ℕ} {at p q r : ℕ} (srcId letter radio : �
     → Put l at (letter ∷ []) m p → Put m p (ascii " radio ") n q → Put n q (decimalOf radio) o r → Put l at (speakerOf srcId) o r
 put-speaker srcId letter radio is-letter is-radio first second third = rw (← is-letter, ← is-radio) (put-three first second third)
 
--- three fields after a text
-put-fields : {l m n : List ℕ} {at p q : ℕ} (a b c d : List ℕ) → Put l at a m p → Put m p (b ++ c ++ d) n q → Put l at (a ++ b ++ c ++ d) n q
-put-fields a b c d first second = simp append-assoc (simp append-assoc at (put-then first second))
-
 -- the line of an accepted record
-pub put-accepted : {l m n o : List ℕ} {at p q r : ℕ} (k srcId tx flips bytes : ℕ) → Put l at (openingOf k srcId) m p → Put m p (ascii " tx ") n q
-    → Put n q (fieldOf tx " repaired " ++ fieldOf flips " bytes " ++ fieldOf bytes "\n") o r → Put l at (acceptedLine k srcId tx flips bytes) o r
-put-accepted k srcId tx flips bytes first second third =
-    put-fields (openingOf k srcId ++ ascii " tx ") (fieldOf tx " repaired ") (fieldOf flips " bytes ") (fieldOf bytes "\n") (put-then first second) third
+pub put-accepted : {l m n o : List ℕ} {at p q r : ℕ} (k srcId tx flips worst bytes : ℕ) → Put l at (openingOf k srcId) m p → Put m p (ascii " tx ") n q
+    → Put n q (damageOf tx flips worst bytes) o r → Put l at (acceptedLine k srcId tx flips worst bytes) o r
+put-accepted k srcId tx flips worst bytes first second third = put-three first second third
 
 -- the parts of the last line
 pub put-last : {l m n : List ℕ} {at p q : ℕ} (sheet : Sheet) (heard accepted refused : ℕ) → heard ≡ heardOf sheet → accepted ≡ acceptedOf sheet → refused ≡ refusedOf sheet

@@ -11,6 +11,10 @@ speakerRoom = mostDigits + 8
 abbrev pub openingRoom : ℕ
 openingRoom = mostDigits + 10 + speakerRoom
 
--- a line: five numbers and 40 others. So a line is shorter than its record.
+-- the end of that line: four numbers and 25 others
+abbrev pub damageRoom : ℕ
+damageRoom = 4 * mostDigits + 25
+
+-- a line: six numbers and 47 others. So a line is shorter than its record.
 abbrev pub lineRoom : ℕ
-lineRoom = 5 * mostDigits + 40
+lineRoom = 6 * mostDigits + 47

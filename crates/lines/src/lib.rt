@@ -1,6 +1,7 @@
 // The text of every line, put into a lent slice at a place. Each function answers the place after what it put.
 use base::Refusal;
 use header::Answer;
+use header::Read;
 use sheet::Sheet;
 ghost use mathlib.Core.Path.{_≡_};
 ghost use mathlib.Core.List.{_++_};
@@ -8,8 +9,8 @@ ghost use Prim.Native.Nat.{_+_, _*_, _≤_};
 ghost use lib.ListN.{length};
 ghost use Rattle.text.specs.Text.{decimalOf, mostDigits, Put};
 ghost use Rattle.header.specs.Fields.{radioOf};
-ghost use Rattle.lines.specs.Lines.{title, letterOf, speakerOf, openingOf, acceptedLine, refusedLine, lineOf, lastLine, closingOf};
-ghost use Rattle.lines.specs.Rooms.{speakerRoom, openingRoom, lineRoom};
+ghost use Rattle.lines.specs.Lines.{title, letterOf, speakerOf, openingOf, damageOf, acceptedLine, refusedLine, lineOf, lastLine, closingOf};
+ghost use Rattle.lines.specs.Rooms.{speakerRoom, openingRoom, damageRoom, lineRoom};
 
 // Puts three numbers, each with a text after it.
 fn put_three(
@@ -66,6 +67,25 @@ fn put_opening(out: &mut [u8], at: usize, k: u64, src_id: u8) -> usize
     put_speaker(out, a, src_id)
 }
 
+// Puts the rest of it: the counter, the flips, the word with the most of them, and the payload's length.
+fn put_damage(out: &mut [u8], at: usize, tx: u8, flips: u32, worst: usize, bytes: usize) -> usize
+    requires { ⌜ at + damageRoom ≤ length (now out) ⌝ }
+    ensures { λ r. ⌜ Put (now (out .entry)) at (damageOf tx flips worst bytes) (now (out .exit)) r ⌝ }
+    ensures { λ r. ⌜ r ≤ at + damageRoom ⌝ }
+{
+    let a = put_three(
+        out,
+        at,
+        tx as u64,
+        b" repaired ",
+        flips as u64,
+        b" worst ",
+        worst as u64,
+        b" bytes ",
+    );
+    text::put_field(out, a, bytes as u64, b"\n")
+}
+
 fn put_accepted(
     out: &mut [u8],
     at: usize,
@@ -73,24 +93,16 @@ fn put_accepted(
     src_id: u8,
     tx: u8,
     flips: u32,
+    worst: usize,
     bytes: usize,
 ) -> usize
     requires { ⌜ at + lineRoom ≤ length (now out) ⌝ }
-    ensures { λ r. ⌜ Put (now (out .entry)) at (acceptedLine k «src_id» tx flips bytes) (now (out .exit)) r ⌝ }
+    ensures { λ r. ⌜ Put (now (out .entry)) at (acceptedLine k «src_id» tx flips worst bytes) (now (out .exit)) r ⌝ }
     ensures { λ r. ⌜ r ≤ at + lineRoom ⌝ }
 {
     let a = put_opening(out, at, k, src_id);
     let b = text::put_text(out, a, b" tx ");
-    put_three(
-        out,
-        b,
-        tx as u64,
-        b" repaired ",
-        flips as u64,
-        b" bytes ",
-        bytes as u64,
-        b"\n",
-    )
+    put_damage(out, b, tx, flips, worst, bytes)
 }
 
 fn put_refused(out: &mut [u8], at: usize, k: u64, why: Refusal) -> usize
@@ -111,11 +123,13 @@ fn put_refused(out: &mut [u8], at: usize, k: u64, why: Refusal) -> usize
 }
 
 // Puts the line of record k, which has so many payload bytes.
-pub fn put_line(out: &mut [u8], at: usize, k: u64, bytes: usize, answer: Answer) -> usize
+pub fn put_line(out: &mut [u8], at: usize, k: u64, bytes: usize, read: Read) -> usize
     requires { ⌜ at + lineRoom ≤ length (now out) ⌝ }
-    ensures { λ r. ⌜ Put (now (out .entry)) at (lineOf k bytes answer) (now (out .exit)) r ⌝ }
+    ensures { λ r. ⌜ Put (now (out .entry)) at (lineOf k bytes read) (now (out .exit)) r ⌝ }
     ensures { λ r. ⌜ r ≤ at + lineRoom ⌝ }
 {
+    let answer = read.answer;
+    let patterns = read.patterns;
     match answer {
         Answer::Accepted { header, flips } => put_accepted(
             out,
@@ -124,6 +138,7 @@ pub fn put_line(out: &mut [u8], at: usize, k: u64, bytes: usize, answer: Answer)
             header.fields.src_id,
             header.fields.fr_cnt_tx,
             flips,
+            air::worst(patterns),
             bytes,
         ),
         Answer::Refused(why) => put_refused(out, at, k, why),

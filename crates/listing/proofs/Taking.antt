@@ -19,13 +19,13 @@ use Rattle.lines.specs.Rooms.{lineRoom}
 -- the payload ends where the record ends
 pub takes : (sheet : Sheet) (k : ℕ) → k ≡ heardOf sheet → (l : List ℕ) (n : ℕ) (before : List ℕ) (at : ℕ) (after : List ℕ) (next : ℕ) (o : Offered)
     → o ≡ offerOf sheet (frame (airIn l) (take (recordSize n - payloadStart) (drop payloadStart l)))
-    → Put before at (lineOf k n (o .answer)) after next → next ≤ at + lineRoom
+    → Put before at (lineOf k n (o .read)) after next → next ≤ at + lineRoom
     → Takes sheet l n before at after (record { sheet = o .sheet; to = next })
 takes sheet k number l n before at after next o is put short =
     let same : recordSize n - payloadStart ≡ n = omega arith in
     let offered : o ≡ offeredIn sheet n l = rw same at is in
     record {
       sheet-is = ap (λ (x : Offered). x .sheet) offered;
-      line = rw (← number) (subst (λ (x : Offered). Put before at (lineOf k n (x .answer)) after next) offered put);
+      line = rw (← number) (subst (λ (x : Offered). Put before at (lineOf k n (x .read)) after next) offered put);
       short = short;
     }

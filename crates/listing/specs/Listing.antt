@@ -36,7 +36,7 @@ abbrev pub offeredIn : Sheet → ℕ → List ℕ → Offered
 offeredIn sheet n l = offerOf sheet (frame (airIn l) (payloadIn n l))
 
 abbrev pub lineIn : Sheet → ℕ → List ℕ → List ℕ
-lineIn sheet n l = lineOf (heardOf sheet) n (offeredIn sheet n l .answer)
+lineIn sheet n l = lineOf (heardOf sheet) n (offeredIn sheet n l .read)
 
 -- a whole record is taken, unless the sheet is full; a length over 1,023, and "a further record for a full sheet", stop the listing
 abbrev pub scanAt : Sheet → List ℕ → Cut → (Sheet → List ℕ → Scan) → Scan

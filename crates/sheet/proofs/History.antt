@@ -4,7 +4,7 @@ use mathlib.Core.Path.{_≡_, sym, ap, _∙_}
 use mathlib.Core.List.{List, _++_}
 use Prim.Native.Nat.{ℕ, _+_, _≤_, _<_, min}
 use native.Mathlib.Omega.{arith}
-use lib.ListN.{length}
+use lib.ListN.{length, replicate}
 use lib.Seq.{take-append-le}
 use Rattle.base.specs.Checks.{refusal}
 use Rattle.header.specs.declared.Answer.the-variants.{Refused}
@@ -17,6 +17,8 @@ use Rattle.sheet.proofs.Counted.{refusals-le}
 use Rattle.sheet.proofs.Running.{countAll, new-silent, new-refusals, new-grown, history-taken, history-few, history-grown}
 use Rattle.sheet.proofs.Replay.{all-own, all-refused}
 use Rattle.sheet.proofs.Offering.{HasSlot, full-refuses, room-takes}
+use Rattle.header.specs.Patterns.{patternsOf}
+use Rattle.air.specs.Air.{wordCount}
 
 module _ (history : List Frame) where
   -- "Frames offered, counted from the history, equal accepted over all sources plus refused over all numbers."
@@ -50,12 +52,12 @@ module _ (history : List Frame) where
       }
 
   -- "After 65,535 offered frames the sheet is full": before that the sheet takes a frame,
-  pub taken-before : length history < fullSheet → (f : Frame) → offerOf (sheetOf history) f ≡ takenOf (sheetOf history) (frameOf f)
+  pub taken-before : length history < fullSheet → (f : Frame) → offerOf (sheetOf history) f ≡ takenOf (sheetOf history) (patternsOf (f .head)) (frameOf f)
   taken-before few f = room-takes (sheetOf history) f (omega (arith, history-grown history .heard-is))
 
   module _ (many : fullSheet ≤ length history) where
     -- and from then on every frame is refused with 17
-    pub refused-after : (f : Frame) → offerOf (sheetOf history) f ≡ record { answer = Refused (refusal 17 fullSheet); sheet = sheetOf history }
+    pub refused-after : (f : Frame) → offerOf (sheetOf history) f ≡ record { read = record { answer = Refused (refusal 17 fullSheet); patterns = replicate wordCount 0 }; sheet = sheetOf history }
     refused-after f = full-refuses (sheetOf history) f (omega (arith, history-grown history .heard-is))
 
     -- and the sheet is the same after whatever follows

@@ -1,27 +1,32 @@
 -- A frame offered to a sheet: what changes there, the place that its answer has, refusal 17, and what is left to the frame.
 -- Assumes nothing.
-use mathlib.Core.Path.{_≡_, refl, sym, ap, _∙_}
+use mathlib.Core.Path.{_≡_, refl, sym, ap, ap₂, _∙_}
 use mathlib.Core.Bool.{Bool, true, false}
 use mathlib.Core.List.{List}
 use Prim.Native.Nat.{ℕ, _+_, _≤_, _<_}
 use native.Mathlib.Omega.{arith}
 use lib.Dec.{leb, eqb}
-use lib.ListN.{getD, set}
+use lib.ListN.{getD, set, replicate}
 use borrow.Author.Tests.{lt-ltb, le-ltb, le-leb, lt-leb, leb-true, leb-false, eq-eqb, ne-eqb}
 use Rattle.base.specs.declared.Refusal.{Refusal}
 use Rattle.base.specs.Checks.{refusal}
 use Rattle.base.specs.Lists.{lowest}
 use Rattle.base.proofs.Lowest.{Passed, starts, goes-on, stops, ends}
 use Rattle.base.proofs.Numbers.{place-lt}
+use Rattle.air.specs.Air.{wordCount}
 use Rattle.air.specs.Flips.{mostFlips}
 use Rattle.header.specs.declared.Header.{Header}
+use Rattle.header.specs.declared.Read.{Read}
 use Rattle.header.specs.declared.Answer.{Answer}
 use Rattle.header.specs.declared.Answer.the-variants.{Accepted, Refused}
-use Rattle.frame.specs.Frames.{Frame, frame, frameOf}
+use Rattle.header.specs.Patterns.{patternsOf}
+use Rattle.header.proofs.Beside.{beside-answer}
+use Rattle.frame.specs.Frames.{Frame, frame, frameOf, frameRead}
 use Rattle.frame.proofs.Bounds.{frame-source, frame-number, frame-flips}
-use Rattle.frame.proofs.Rules.{frame-first}
+use Rattle.frame.proofs.Rules.{frame-first, frame-read-is, frame-answer}
 use Rattle.sheet.specs.declared.Source.{Source}
 use Rattle.sheet.specs.declared.Sheet.{Sheet}
+use Rattle.sheet.specs.declared.Offered.{Offered}
 use Rattle.sheet.specs.Records.{addOf, nextOf}
 use Rattle.sheet.specs.Sheets.{records, recordOf, counted, refusalCounts, slotOf, sourceAt, refusalsAt, acceptOf, refuseOf, countedOf, heardOf, fullSheet, fullOf, offerAnswer, takenOf, offerOf}
 
@@ -100,23 +105,31 @@ stays-17 : (sheet : Sheet) → refuseOf sheet 17 ≡ sheet
 unfolding refuseOf slotOf lowest
 stays-17 sheet = refl
 
-pub full-refuses : (sheet : Sheet) (f : Frame) → fullSheet ≤ heardOf sheet → offerOf sheet f ≡ record { answer = Refused (refusal 17 fullSheet); sheet = sheet }
+pub full-refuses : (sheet : Sheet) (f : Frame) → fullSheet ≤ heardOf sheet → offerOf sheet f ≡ record { read = record { answer = Refused (refusal 17 fullSheet); patterns = replicate wordCount 0 }; sheet = sheet }
 full-refuses sheet f many = rw (answers-17 sheet f many, stays-17 sheet)
 
 -- a sheet with room takes the frame
-pub room-takes : (sheet : Sheet) (f : Frame) → heardOf sheet < fullSheet → offerOf sheet f ≡ takenOf sheet (frameOf f)
-room-takes sheet f room = ap (takenOf sheet) (answers-frame sheet f room)
+pub room-takes : (sheet : Sheet) (f : Frame) → heardOf sheet < fullSheet → offerOf sheet f ≡ takenOf sheet (patternsOf (f .head)) (frameOf f)
+room-takes sheet f room = ap (takenOf sheet (patternsOf (f .head))) (answers-frame sheet f room)
 
--- THE SAME, as the sheet finds it: r is the frame's answer, and a what it was found to be
+-- the patterns leave the answer as it is
+pub offered-answer : (sheet : Sheet) (f : Frame) → offerOf sheet f .read .answer ≡ offerAnswer sheet f
+offered-answer sheet f = beside-answer (patternsOf (f .head)) (offerAnswer sheet f)
+
+-- THE SAME, as the sheet finds it: what was read of the frame, and a what its answer was found to be
 module _ (sheet : Sheet) (air payload : List ℕ) where
-  pub gives-17 : (full : Bool) → full ≡ fullOf sheet → full ≡ true → record { answer = Refused (refusal 17 fullSheet); sheet = sheet } ≡ offerOf sheet (frame air payload)
+  pub gives-17 : (full : Bool) → full ≡ fullOf sheet → full ≡ true → record { read = record { answer = Refused (refusal 17 fullSheet); patterns = replicate wordCount 0 }; sheet = sheet } ≡ offerOf sheet (frame air payload)
   gives-17 full tested taken = sym (full-refuses sheet (frame air payload) (leb-true fullSheet (heardOf sheet) (sym tested ∙ taken)))
 
-  pub has-record : (r : Answer) → r ≡ frameOf (frame air payload) → (h : Header) (flips : ℕ) → r ≡ Accepted h flips → recordOf h < records
-  has-record r is h flips e = omega (arith, frame-source (frame air payload) h flips (sym is ∙ e))
+  module _ (read : Read) (is : read ≡ frameRead (frame air payload)) where
+    pub has-record : (h : Header) (flips : ℕ) → read .answer ≡ Accepted h flips → recordOf h < records
+    has-record h flips e = omega (arith, frame-source (frame air payload) h flips (sym (frame-answer (frame air payload) read is) ∙ e))
 
-  pub takes : heardOf sheet < fullSheet → (r a : Answer) → r ≡ frameOf (frame air payload) → r ≡ a → (after : Sheet) → after ≡ countedOf sheet a → record { answer = a; sheet = after } ≡ offerOf sheet (frame air payload)
-  takes room r a is e after counts = rw counts (sym (room-takes sheet (frame air payload) room ∙ ap (takenOf sheet) (sym is ∙ e)))
+    pub takes : heardOf sheet < fullSheet → (a : Answer) → read .answer ≡ a → (after : Sheet) → after ≡ countedOf sheet a → record { read = read; sheet = after } ≡ offerOf sheet (frame air payload)
+    takes room a e after counts =
+        let same : a ≡ frameOf (frame air payload) = sym e ∙ frame-answer (frame air payload) read is in
+        ap₂ (λ (x : Read) (y : Sheet). record { read = x; sheet = y }) (is ∙ frame-read-is (frame air payload)) (counts ∙ ap (countedOf sheet) same)
+        ∙ sym (room-takes sheet (frame air payload) room)
 
 -- a sheet that is not found full has room
 pub has-room : (sheet : Sheet) (full : Bool) → full ≡ fullOf sheet → full ≡ false → heardOf sheet < fullSheet

@@ -18,12 +18,16 @@ use Rattle.frame.specs.Frames.{Frame}
 use Rattle.sheet.specs.declared.Sheet.{Sheet}
 use Rattle.sheet.specs.Records.{addOf}
 use Rattle.sheet.specs.Sheets.{refusalsAt, refusalCounts, slotOf, refuseOf, countedOf, offerChecks, offerAnswer, offerOf}
+use Rattle.sheet.proofs.Offering.{offered-answer}
 
 module _ (sheet : Sheet) (f : Frame) where
   -- "Given exactly when", 17 among them
-  pub offered-exactly : (why : Refusal) → Exactly (offerOf sheet f .answer) (Refused why) (offerChecks sheet f)
+  answered-exactly : (why : Refusal) → Exactly (offerAnswer sheet f) (Refused why) (offerChecks sheet f)
   unfolding offerAnswer
-  offered-exactly why = exactly (repairedAnswer (f .head)) (Refused why) (offerChecks sheet f) (not-refused (f .head) why)
+  answered-exactly why = exactly (repairedAnswer (f .head)) (Refused why) (offerChecks sheet f) (not-refused (f .head) why)
+
+  pub offered-exactly : (why : Refusal) → Exactly (offerOf sheet f .read .answer) (Refused why) (offerChecks sheet f)
+  offered-exactly why = rw (offered-answer sheet f) (answered-exactly why)
 
 -- a refused frame "touches no frame record"
 refuse-keeps : (sheet : Sheet) (number : ℕ) → refuseOf sheet number .sources ≡ sheet .sources
@@ -34,5 +38,5 @@ refuse-keeps sheet number = by (ltb (slotOf number) refusalCounts) (set (sheet .
     by true counts = refl
     by false counts = refl
 
-pub refused-keeps : (sheet : Sheet) (f : Frame) (why : Refusal) → offerOf sheet f .answer ≡ Refused why → offerOf sheet f .sheet .sources ≡ sheet .sources
-refused-keeps sheet f why e = ap (λ (a : Answer). countedOf sheet a .sources) e ∙ refuse-keeps sheet (why .number)
+pub refused-keeps : (sheet : Sheet) (f : Frame) (why : Refusal) → offerOf sheet f .read .answer ≡ Refused why → offerOf sheet f .sheet .sources ≡ sheet .sources
+refused-keeps sheet f why e = ap (λ (a : Answer). countedOf sheet a .sources) (sym (offered-answer sheet f) ∙ e) ∙ refuse-keeps sheet (why .number)

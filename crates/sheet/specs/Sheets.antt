@@ -12,6 +12,7 @@ use Rattle.header.specs.declared.Answer.{Answer}
 use Rattle.header.specs.declared.Answer.the-variants.{Accepted, Refused}
 use Rattle.header.specs.Fields.{lastSource}
 use Rattle.header.specs.Reading.{repairedAnswer}
+use Rattle.header.specs.Patterns.{beside, patternsOf}
 use Rattle.frame.specs.Frames.{Frame, frameNumbers, frameChecks}
 use Rattle.sheet.specs.declared.Source.{Source}
 use Rattle.sheet.specs.declared.Sheet.{Sheet}
@@ -97,10 +98,10 @@ offerChecks sheet f = sheetFull sheet ∷ frameChecks f
 unfoldable pub offerAnswer : Sheet → Frame → Answer
 offerAnswer sheet f = first (repairedAnswer (f .head)) (offerChecks sheet f)
 
--- an answer, and the sheet that has counted it
-abbrev pub takenOf : Sheet → Answer → Offered
-takenOf sheet answer = record { answer = answer; sheet = countedOf sheet answer }
+-- an answer with patterns beside it, and the sheet that has counted it
+abbrev pub takenOf : Sheet → List ℕ → Answer → Offered
+takenOf sheet patterns answer = record { read = beside patterns answer; sheet = countedOf sheet answer }
 
--- a frame offered: the answer, and the sheet after it
+-- a frame offered: the answer, the patterns of its words, and the sheet after it
 abbrev pub offerOf : Sheet → Frame → Offered
-offerOf sheet f = takenOf sheet (offerAnswer sheet f)
+offerOf sheet f = takenOf sheet (patternsOf (f .head)) (offerAnswer sheet f)

@@ -1,4 +1,5 @@
 // The pass sheet: a record for each source, and a count for each refusal of a frame. A new sheet is the only reset.
+use air::WORD_COUNT;
 use base::BEYOND_REPAIR;
 use base::CRC5_DIFFERS;
 use base::CRC13_DIFFERS;
@@ -11,6 +12,7 @@ use base::UNKNOWN_CODING;
 use base::UNKNOWN_SOURCE;
 use header::Answer;
 use header::Header;
+use header::Read;
 use word::table::TABLE_ROWS;
 ghost use mathlib.Core.Path.{_≡_};
 ghost use Prim.Native.Nat.{_*_, _<_, _≤_};
@@ -55,9 +57,9 @@ pub struct Sheet {
     pub refusals: [u32; REFUSAL_COUNTS],
 }
 
-// The answer to an offered frame, and the sheet after it.
+// What was read of an offered frame, and the sheet after it.
 pub struct Offered {
-    pub answer: Answer,
+    pub read: Read,
     pub sheet: Sheet,
 }
 
@@ -222,21 +224,16 @@ pub fn take_in(table: &[u16; TABLE_ROWS], sheet: Sheet, air: &[u8], payload: &[u
     requires { ⌜ heardOf sheet < fullSheet ⌝ }
     ensures { λ r. ⌜ r ≡ offerOf sheet (frame (now (air .entry)) (now (payload .entry))) ⌝ }
 {
-    let answer = frame::read_frame_in(table, air, payload);
+    let read = frame::read_frame_in(table, air, payload);
+    let answer = read.answer;
     match answer {
         Answer::Accepted { header, flips } => {
             let after = accept(sheet, header, flips);
-            Offered {
-                answer,
-                sheet: after,
-            }
+            Offered { read, sheet: after }
         }
         Answer::Refused(why) => {
             let after = refuse(sheet, why.number);
-            Offered {
-                answer,
-                sheet: after,
-            }
+            Offered { read, sheet: after }
         }
     }
 }
@@ -251,7 +248,9 @@ pub fn offer(sheet: Sheet, air: &[u8], payload: &[u8]) -> Offered
             number: SHEET_FULL,
             place: FULL as usize,
         });
-        return Offered { answer, sheet };
+        let patterns = [0u16; WORD_COUNT];
+        let read = Read { answer, patterns };
+        return Offered { read, sheet };
     }
     let table = word::table::whole();
     take_in(&table, sheet, air, payload)

@@ -6,10 +6,12 @@ use crate::numbers;
 ghost use mathlib.Core.Path.{_≡_};
 ghost use Prim.Native.Nat.{_+_, _≤_};
 ghost use lib.ListN.{length};
+use air::WORD_COUNT;
 use base::Written;
 use header::Answer;
 use header::Fields;
 use header::Header;
+use header::Read;
 
 // What the output of the header writer holds beforehand.
 const HELD: u8 = 7;
@@ -44,8 +46,21 @@ fn put_accepted(reply: &mut Reply, header: Header, flips: u32) {
     numbers::put_four(reply, next, flips);
 }
 
-// Puts the answer to a header alone or to a frame.
-pub fn put_answer(reply: &mut Reply, answer: Answer) {
+// Puts the patterns of fourteen words.
+fn put_patterns(reply: &mut Reply, patterns: [u16; WORD_COUNT]) {
+    let mut next = layout::PATTERNS;
+    let mut j = 0;
+    while j < WORD_COUNT {
+        next = numbers::put_two(reply, next, patterns[j]);
+        j += 1;
+    }
+}
+
+// Puts what was read of a header alone or of a frame.
+pub fn put_read(reply: &mut Reply, read: Read) {
+    let patterns = read.patterns;
+    put_patterns(reply, patterns);
+    let answer = read.answer;
     match answer {
         Answer::Accepted { header, flips } => put_accepted(reply, header, flips),
         Answer::Refused(why) => numbers::put_refusal(reply, why),
@@ -54,14 +69,14 @@ pub fn put_answer(reply: &mut Reply, answer: Answer) {
 
 pub fn header_reply(record: &Record, reply: &mut Reply) {
     let air = numbers::sized(record, layout::HEADER_ROOM);
-    put_answer(reply, header::read_header(air));
+    put_read(reply, header::read_header(air));
 }
 
 pub fn frame_reply(record: &Record, reply: &mut Reply) {
     let mut space = [0u8; layout::PAYLOAD_ROOM];
     let payload = numbers::payload_at(record, layout::FRAMES_RULE, &mut space);
     let air = numbers::sized(record, layout::HEADER_ROOM);
-    put_answer(reply, frame::read_frame(air, payload));
+    put_read(reply, frame::read_frame(air, payload));
 }
 
 fn fields_of(record: &Record) -> Fields {

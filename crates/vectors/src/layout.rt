@@ -88,11 +88,14 @@ pub const PLACE: usize = 1;
 
 pub const VALUES: usize = 9;
 
-// The answer to a header or a frame: 14 fields, PduLength, CRC13, CRC5 and the flips. In a reply of `sheets` the sheet follows it.
-pub const SHEET_AFTER: usize = VALUES + 14 + 2 + 2 + 1 + 4;
+// The answer to a header or a frame: 14 fields, PduLength, CRC13, CRC5 and the flips; then the patterns of fourteen words. In a reply
+// of `sheets` the sheet follows them.
+pub const PATTERNS: usize = VALUES + 14 + 2 + 2 + 1 + 4;
 
-// What repair makes of a number: whether there is a word, the word, the flips.
-pub const REPAIRED: usize = 1 + 2 + 4;
+pub const SHEET_AFTER: usize = PATTERNS + 14 * 2;
+
+// What repair makes of a number: whether there is a word, the word, its flip pattern.
+pub const REPAIRED: usize = 1 + 2 + 2;
 
 // The size of a record, and that of its reply.
 pub struct Sizes(pub usize, pub usize);

@@ -100,8 +100,8 @@ pub fn sheet_reply(record: &Record, reply: &mut Reply) {
     let payload = numbers::payload_at(record, layout::SHEETS_RULE, &mut space);
     let header = numbers::part(record, layout::SHEETS_HEADER, layout::SHEETS_RULE);
     let offered = sheet::offer(sheet_of(record), header, payload);
-    let answer = offered.answer;
+    let read = offered.read;
     let after = offered.sheet;
-    frames::put_answer(reply, answer);
+    frames::put_read(reply, read);
     put_sheet(reply, after);
 }

@@ -16,7 +16,7 @@ fn put_repaired(reply: &mut Reply, at: usize, repaired: Repaired) -> usize
         Repaired::Word { word, flips } => {
             let next = numbers::put_byte(reply, at, 1);
             let next = numbers::put_two(reply, next, word);
-            numbers::put_four(reply, next, flips)
+            numbers::put_two(reply, next, flips)
         }
         Repaired::Beyond => at + layout::REPAIRED,
     }

@@ -1,6 +1,6 @@
 -- What a turn of the plain search does.
 -- Assumes nothing.
-use mathlib.Core.Path.{_≡_, refl, sym, ap, _∙_}
+use mathlib.Core.Path.{_≡_, refl, sym, _∙_}
 use mathlib.Core.Bool.{true≢false}
 use Prim.Native.Nat.{ℕ, _+_, _≤_, _<_}
 use native.Mathlib.Omega.{arith}
@@ -39,8 +39,8 @@ module _ (w : ℕ) (found : Repaired) (q v : ℕ) (below : w < wordLimit) (so : 
     passed = goes-on 32 (within w) q (so .passed) more (lt-leb (distance w (multipleOf q)) 3 (rw (← is) (rw counted at far)));
   }
 
-  pub search-stops : ones (bitXor w v) ≤ 3 → Word v (ones (bitXor w v)) ≡ repairOf w
-  search-stops near = ap (Word v) counted ∙ sym (repair-close w v below (record { valid = valid; near = rw counted at near }))
+  pub search-stops : ones (bitXor w v) ≤ 3 → Word v (bitXor w v) ≡ repairOf w
+  search-stops near = sym (repair-close w v below (record { valid = valid; near = rw counted at near }))
 
 pub search-ends : (w : ℕ) (found : Repaired) (q : ℕ) → w < wordLimit → Searched w found q → 32 ≤ q → found ≡ repairOf w
 search-ends w found q below so h = so .nothing ∙ sym (repair-far w below never)

@@ -1,16 +1,15 @@
 -- The valid words: their sums are valid, and any two differ in at least seven places.
 -- Assumes nothing.
 use mathlib.Core.Path.{_≡_, refl, sym, ap, ap₂, _∙_, subst}
-use Prim.Native.Nat.{ℕ, _/_, _%_, _^_, _≤_, _<_}
+use Prim.Native.Nat.{ℕ, _≤_, _<_}
 use native.Mathlib.Nat.{le-trans, add-le-add}
-use lib.Bits.{bitXor, differ, xor-lt, xor-self}
+use lib.Bits.{bitXor, xor-lt, xor-self}
 use lib.Count.{onesIn}
 use lib.Dec.{eqb}
-use Rattle.base.specs.Lists.{lowest, sumTo}
+use Rattle.base.specs.Lists.{lowest}
 use Rattle.base.proofs.Xor.{xor-left, xor-none}
-use Rattle.base.proofs.Sums.{sum-same}
-use Rattle.base.proofs.Ones.{ones-xor-le, ones-sum, xor-bit}
-use Rattle.word.specs.Words.{wordLimit, multipleOf, Valid, dataOf, encodeOf, distance, positions}
+use Rattle.base.proofs.Ones.{ones-xor-le}
+use Rattle.word.specs.Words.{wordLimit, multipleOf, Valid, dataOf, encodeOf, flipCount, distance}
 use Rattle.word.proofs.Multiples.{multiple-xor, multiple-lt, multiple-zero, multiple-encode, multiplier-lt}
 use Rattle.word.specs.Repairs.{radius}
 
@@ -38,14 +37,14 @@ unfolding distance
 valid-one w {u} {v} a b near-u near-v =
     valid-apart a b (rw (← xor-left w u v) (le-trans (ones-xor-le 15 (bitXor w u) (bitXor w v)) (add-le-add near-u near-v)))
 
+-- a distance is the count of the flips that lead from one word to the other
+pub distance-is : (a b : ℕ) → distance a b ≡ flipCount (bitXor a b)
+unfolding distance
+distance-is a b = refl
+
 pub distance-self : (w : ℕ) → distance w w ≡ 0
 unfolding distance onesIn
-distance-self w = ap (onesIn 15) (xor-self w)
-
--- the places in which two words differ, one by one
-pub distance-places : (a b : ℕ) → distance a b ≡ sumTo positions (λ i. differ (a / 2 ^ i % 2) (b / 2 ^ i % 2))
-unfolding distance
-distance-places a b = ones-sum 15 (bitXor a b) ∙ sum-same 15 _ _ (λ i h. xor-bit a b i)
+distance-self w = ap flipCount (xor-self w)
 
 -- data and the valid word that has them
 pub encode-valid : (d : ℕ) → d < 32 → Valid (encodeOf d)

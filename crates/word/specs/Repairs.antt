@@ -4,10 +4,9 @@ use mathlib.Core.Bool.{Bool, true, false, cond}
 use mathlib.Core.List.{List}
 use Prim.Native.Nat.{ℕ, _^_}
 use lib.Bits.{bitXor}
-use lib.Count.{onesIn}
 use lib.Dec.{leb, ltb, eqb}
 use Rattle.base.specs.Lists.{lowest, tabulate}
-use Rattle.word.specs.Words.{positions, wordLimit, multipleOf, validCount, parityBits, dataOf, encodeOf, distance}
+use Rattle.word.specs.Words.{wordLimit, multipleOf, validCount, parityBits, dataOf, encodeOf, distance}
 use Rattle.word.specs.declared.Repaired.{Repaired}
 use Rattle.word.specs.declared.Repaired.the-variants.{Word, Beyond}
 
@@ -32,9 +31,9 @@ nearestWord q = cond (ltb q validCount) (at (multipleOf q)) none
 unfoldable pub nearest : ℕ → Near
 nearest w = cond (ltb w wordLimit) (nearestWord (lowest validCount (within w))) none
 
--- what is answered of the nearest valid word: it, and the number of places in which w differs from it
+-- what is answered of the nearest valid word: it, and "the flip pattern itself", the places in which w differs from it
 abbrev pub repairedTo : ℕ → Near → Repaired
-repairedTo w (at v) = Word v (distance w v)
+repairedTo w (at v) = Word v (bitXor w v)
 repairedTo w none = Beyond
 
 -- the answer of repair
@@ -43,32 +42,32 @@ repairOf w = repairedTo w (nearest w)
 
 -- the parts of an answer; 0 where there is none
 abbrev pub isBeyond : Repaired → Bool
-isBeyond (Word v n) = false
+isBeyond (Word v e) = false
 isBeyond Beyond = true
 
 abbrev pub wordOf : Repaired → ℕ
-wordOf (Word v n) = v
+wordOf (Word v e) = v
 wordOf Beyond = 0
 
-abbrev pub flipsOf : Repaired → ℕ
-flipsOf (Word v n) = n
-flipsOf Beyond = 0
+abbrev pub patternOf : Repaired → ℕ
+patternOf (Word v e) = e
+patternOf Beyond = 0
 
 -- the remainder modulo 0x537: the multiple with the same five highest coefficients is taken off
 unfoldable pub remainderOf : ℕ → ℕ
 remainderOf w = bitXor w (encodeOf (dataOf w))
 
--- the flips from w to the nearest valid word as a number; where there is none, the mark of a word "beyond repair"
+-- what the table holds for an answer: its flip pattern, or the mark of a word "beyond repair"
 abbrev pub mark : ℕ
 mark = 65535
 
-abbrev pub flipsTo : ℕ → Near → ℕ
-flipsTo w (at v) = bitXor w v
-flipsTo w none = mark
+abbrev pub rowFor : Repaired → ℕ
+rowFor (Word v e) = e
+rowFor Beyond = mark
 
--- a row of the table: the flips of the words with the remainder r
+-- a row of the table: the flips of the words with the remainder r, of which r is one
 unfoldable pub rowOf : ℕ → ℕ
-rowOf r = flipsTo r (nearest r)
+rowOf r = rowFor (repairOf r)
 
 -- "The table is indexed by the 10-bit remainder modulo 0x537: 1,024 rows"
 abbrev pub tableRows : ℕ
@@ -77,6 +76,6 @@ tableRows = 2 ^ parityBits
 unfoldable pub syndromes : List ℕ
 syndromes = tabulate tableRows rowOf
 
--- what a row makes of a word: nothing where it is marked, else the word with the flips undone, and how many they are
+-- what a row makes of a word: nothing where it is marked, else the word with the row's flips undone, and these flips
 abbrev pub byRow : ℕ → ℕ → Repaired
-byRow w e = cond (eqb e mark) Beyond (Word (bitXor w e) (onesIn positions e))
+byRow w e = cond (eqb e mark) Beyond (Word (bitXor w e) e)

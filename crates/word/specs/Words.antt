@@ -49,6 +49,10 @@ dataOf w = w / 2 ^ parityBits
 unfoldable pub encodeOf : ℕ → ℕ
 encodeOf d = multipleOf (lowest validCount (λ q. eqb (dataOf (multipleOf q)) d))
 
+-- flips of a word are a number too, its flip pattern: bit i is set where position i is flipped. Its ones are the count of the flips
+abbrev pub flipCount : ℕ → ℕ
+flipCount e = onesIn positions e
+
 -- the number of places in which a and b differ
 unfoldable pub distance : ℕ → ℕ → ℕ
-distance a b = onesIn positions (bitXor a b)
+distance a b = flipCount (bitXor a b)

@@ -10,7 +10,7 @@ use table::MARK;
 use table::TABLE_ROWS;
 
 // Numbers below it are words.
-const WORD_LIMIT: u16 = 32768;
+pub const WORD_LIMIT: u16 = 32768;
 
 // The lowest of the five data bits of a word.
 pub const DATA_BIT: u16 = 1024;
@@ -21,9 +21,9 @@ const VALID_COUNT: u16 = 32;
 // The most places in which a word may differ from a valid one and still be repaired.
 const RADIUS: u32 = 3;
 
-// What repair makes of a number: the valid word within three flips of it, and how many flips those are; or nothing.
+// What repair makes of a number: the valid word within three flips of it, and the flips: bit i is set where position i was flipped.
 pub enum Repaired {
-    Word { word: u16, flips: u32 },
+    Word { word: u16, flips: u16 },
     Beyond,
 }
 
@@ -61,8 +61,8 @@ pub fn search(w: u16) -> Repaired
     let mut q: u16 = 0;
     while q < VALID_COUNT {
         let v = multiple(q);
-        let flips = u16::count_ones(w ^ v);
-        if flips <= RADIUS {
+        let flips = w ^ v;
+        if u16::count_ones(flips) <= RADIUS {
             found = Repaired::Word { word: v, flips };
             break;
         }
@@ -93,7 +93,7 @@ pub fn repair_in(table: &[u16; TABLE_ROWS], w: u16) -> Repaired
     }
     Repaired::Word {
         word: w ^ flips,
-        flips: u16::count_ones(flips),
+        flips,
     }
 }
 

@@ -1,6 +1,6 @@
 //! The inputs of each kind.
 
-use super::{stored, Kind};
+use super::{stored, telling, Kind};
 use crate::air::{AIR_BITS, WORDS};
 use crate::header::{largest, Field, Header, FIELDS, GIVEN, HEADER_BITS, LONGEST_PAYLOAD, WIDTHS};
 use crate::page::{EPS_ROWS, ROWS};
@@ -19,6 +19,13 @@ pub(super) const PAGE_ROOM: usize = 1_100;
 
 /// The inputs of a kind, in their order.
 pub(super) fn inputs(kind: Kind, seed: u64) -> Vec<Vec<u8>> {
+    let mut inputs = mixture(kind, seed);
+    inputs.extend(telling::inputs(kind, seed));
+    inputs
+}
+
+/// The inputs of a kind but for the telling ones at their end.
+pub(super) fn mixture(kind: Kind, seed: u64) -> Vec<Vec<u8>> {
     let rng = &mut Rng::new(seed);
     match kind {
         Kind::Words => (0..=u16::MAX).map(|n| n.to_be_bytes().to_vec()).collect(),
@@ -56,7 +63,7 @@ pub(super) struct PayloadRule {
 }
 
 impl PayloadRule {
-    fn chance(rng: &mut Rng, length: usize) -> PayloadRule {
+    pub fn chance(rng: &mut Rng, length: usize) -> PayloadRule {
         let [start, step] = (rng.below(65_536) as u16).to_be_bytes();
         PayloadRule {
             length: length as u16,
@@ -75,6 +82,21 @@ impl PayloadRule {
         let [high, low] = self.length.to_be_bytes();
         [high, low, self.start, self.step]
     }
+}
+
+/// One input of `frames`.
+pub(super) fn frame_input(slice: &[u8], rule: PayloadRule) -> Vec<u8> {
+    let mut record = sized(slice, HEADER_ROOM);
+    record.extend(rule.bytes());
+    record
+}
+
+/// One input of `sheets`.
+pub(super) fn sheet_input(sheet: &MadeUp, air: &[u8; AIR_BITS], rule: PayloadRule) -> Vec<u8> {
+    let mut record = sheet.bytes();
+    record.extend(air);
+    record.extend(rule.bytes());
+    record
 }
 
 /// Lengths 0 to 64 and some up to 2,047 with bytes by chance; payloads of 00 and of FF; each one bit of
@@ -285,11 +307,7 @@ fn write_inputs(rng: &mut Rng) -> Vec<Vec<u8>> {
 /// Frames that are accepted, or refused with 7 or 8; then every slice of `headers`.
 fn frame_inputs(rng: &mut Rng) -> Vec<Vec<u8>> {
     let mut inputs = Vec::new();
-    let mut push = |slice: &[u8], rule: PayloadRule| {
-        let mut record = sized(slice, HEADER_ROOM);
-        record.extend(rule.bytes());
-        inputs.push(record);
-    };
+    let mut push = |slice: &[u8], rule: PayloadRule| inputs.push(frame_input(slice, rule));
     for round in 0..200 {
         let length = match round {
             0..=9 => round,
@@ -453,7 +471,7 @@ fn shown_inputs(rng: &mut Rng) -> Vec<Vec<u8>> {
 }
 
 /// The counts and last counters of a made-up sheet.
-struct MadeUp {
+pub(super) struct MadeUp {
     /// accepted, repaired, missed, repeats
     counts: [[u32; 4]; SOURCES],
     last: [Option<u8>; SOURCES],
@@ -461,6 +479,15 @@ struct MadeUp {
 }
 
 impl MadeUp {
+    /// A sheet that was offered nothing.
+    pub fn new() -> MadeUp {
+        MadeUp {
+            counts: [[0; 4]; SOURCES],
+            last: [None; SOURCES],
+            refused: [0; COUNTED_REFUSALS],
+        }
+    }
+
     fn bytes(&self) -> Vec<u8> {
         let mut bytes = Vec::new();
         for (counts, last) in self.counts.iter().zip(self.last) {
@@ -474,11 +501,7 @@ impl MadeUp {
     /// Sheets of five sorts: new, small, about to be full by so many, with counts at their limit, and
     /// with sums past 32 bits.
     fn chance(rng: &mut Rng) -> MadeUp {
-        let mut sheet = MadeUp {
-            counts: [[0; 4]; SOURCES],
-            last: [None; SOURCES],
-            refused: [0; COUNTED_REFUSALS],
-        };
+        let mut sheet = MadeUp::new();
         let sort = rng.below(5);
         if sort == 0 {
             return sheet;
@@ -518,7 +541,7 @@ impl MadeUp {
 fn sheet_inputs(rng: &mut Rng) -> Vec<Vec<u8>> {
     let mut inputs = Vec::new();
     for _ in 0..2_000 {
-        let mut record = MadeUp::chance(rng).bytes();
+        let sheet = MadeUp::chance(rng);
         let length = rng.below(80) as usize;
         let rule = PayloadRule::chance(rng, length);
         let mut header = fresh_header(rng, &rule.payload());
@@ -537,9 +560,7 @@ fn sheet_inputs(rng: &mut Rng) -> Vec<Vec<u8>> {
             1 => air[rng.below(AIR_BITS as u32) as usize] = 2,
             _ => {}
         }
-        record.extend(air);
-        record.extend(rule.bytes());
-        inputs.push(record);
+        inputs.push(sheet_input(&sheet, &air, rule));
     }
     inputs
 }

@@ -5,6 +5,7 @@ use std::fmt::{Display, Write};
 use super::bytes::Bytes;
 use super::replies::{AIR_ROOM, FIELD_BYTES, NAN_BITS, USER_ROOM};
 use super::Kind;
+use crate::air::WORDS;
 use crate::page::ROWS;
 use crate::sheet::{COUNTED_REFUSALS, SOURCES};
 
@@ -46,9 +47,9 @@ fn answer_line(reply: &mut Bytes, told: impl FnOnce(&mut Bytes) -> String) -> St
 /// The table and the search say the same, or both are told.
 fn word_line(reply: &mut Bytes) -> String {
     let number = reply.u16();
-    let mut repaired = || match (reply.u8(), reply.u16(), reply.u32()) {
+    let mut repaired = || match (reply.u8(), reply.u16(), reply.u16()) {
         (0, _, _) => String::from("beyond"),
-        (_, word, flips) => format!("{word} {flips}"),
+        (_, word, pattern) => format!("{word} {}", pattern_digits(pattern)),
     };
     let (table, search) = (repaired(), repaired());
     if table == search {
@@ -58,6 +59,11 @@ fn word_line(reply: &mut Bytes) -> String {
     }
 }
 
+/// A flip pattern, in which single positions are to be seen.
+fn pattern_digits(pattern: u16) -> String {
+    format!("{pattern:04x}")
+}
+
 fn heard_line(reply: &mut Bytes) -> String {
     answer_line(reply, |reply| {
         let mut line = String::from("accepted");
@@ -65,6 +71,9 @@ fn heard_line(reply: &mut Bytes) -> String {
             add(&mut line, reply.number(bytes));
         }
         add(&mut line, reply.u32());
+        for _ in 0..WORDS {
+            add(&mut line, pattern_digits(reply.u16()));
+        }
         line
     })
 }

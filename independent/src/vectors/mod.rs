@@ -1,8 +1,8 @@
 //! Vectors: inputs that a program in another language answers too, so that the two can be compared.
 //!
 //! Each kind has a stream of inputs, a reply to each input and a line for each reply. README.md tells
-//! their format; `inputs.rs` says which inputs there are. A seed (1 where none is named) drives those
-//! that are left to chance.
+//! their format; `inputs.rs` and `telling.rs` say which inputs there are. A seed (1 where none is named)
+//! drives those that are left to chance.
 
 mod bytes;
 mod compare;
@@ -10,6 +10,7 @@ mod inputs;
 mod lines;
 mod replies;
 mod stored;
+mod telling;
 
 use std::io::{self, Write};
 
@@ -54,17 +55,17 @@ pub const DEFAULT_SEED: u64 = 1;
 
 /// The sizes of a record and of a reply, in the order of the kinds; a `stored` record has the sizes of what it holds.
 const SIZES: [(usize, usize); 11] = [
-    (2, 16),
+    (2, 12),
     (1, 3),
     (2_049, 4),
     (65, 1),
-    (258, 32),
+    (258, 60),
     (20, 267),
-    (262, 32),
+    (262, 60),
     (1_102, 80),
     (36, 75),
     (20, 17),
-    (390, 208),
+    (390, 236),
 ];
 
 impl Kind {

@@ -93,13 +93,13 @@ fn put_answer(answer: Result<(), Refusal>, out: &mut Vec<u8>) {
 fn word_reply(number: u16, out: &mut Vec<u8>) {
     put(out, 2, number);
     for _ in 0..2 {
-        let (found, word, flips) = match repair(number) {
-            Some(repaired) => (1, repaired.word, repaired.flips),
+        let (found, word, pattern) = match repair(number) {
+            Some(repaired) => (1, repaired.word, repaired.pattern),
             None => (0, 0, 0),
         };
         put(out, 1, found as u8);
         put(out, 2, word);
-        put(out, 4, flips);
+        put(out, 2, pattern);
     }
 }
 
@@ -110,7 +110,10 @@ fn heard_reply(answer: Result<Heard, Refusal>, out: &mut Vec<u8>) {
             for (bytes, value) in FIELD_BYTES.into_iter().zip(heard.header.values) {
                 put(out, bytes, value);
             }
-            put(out, 4, heard.flips);
+            put(out, 4, heard.flips());
+            for pattern in heard.patterns {
+                put(out, 2, pattern);
+            }
         }
         Err(refusal) => put_answer(Err(refusal), out),
     }
@@ -201,7 +204,7 @@ fn sheet_reply(input: &mut Bytes, out: &mut Vec<u8>) {
     sheet.refused.fill_with(|| input.u32());
     let air = input.take(AIR_BITS);
     heard_reply(sheet.offer(air, &payload(input)), out);
-    // beside a refusal the fields of a header are zeros
+    // beside a refusal the fields of a header and the patterns are zeros
     out.resize(Kind::Headers.reply_bytes(), 0);
     for source in &sheet.sources {
         put(out, 4, source.accepted);

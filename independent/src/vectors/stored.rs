@@ -1,20 +1,16 @@
 //! The inputs of `stored`: a part of the inputs of every other kind.
 //!
-//! One input in so many is taken, and besides those at a limit of their kind and those that are the
-//! first with their refusal and place. So every refusal of the other streams is there, and the whole is
-//! small enough to be kept in a repository. Headers with damage in one word alone are added: the stream
-//! of `headers` has hardly any with one or two flips in all.
+//! One input in so many is taken, and besides those at a limit of their kind, those that are the first
+//! with their refusal and place, and all telling ones. So every refusal of the other streams is there,
+//! and the whole is small enough to be kept in a repository.
 
 use std::collections::{BTreeMap, BTreeSet};
 
-use super::inputs::{self, fresh_header, sized, HEADER_ROOM};
+use super::inputs::mixture;
 use super::lines::line;
 use super::replies::reply;
-use super::Kind;
-use crate::air::WORDS;
+use super::{telling, Kind};
 use crate::header::LONGEST_PAYLOAD;
-use crate::rng::Rng;
-use crate::sample::flip_some;
 
 /// How much of a kind is taken.
 struct Share {
@@ -48,10 +44,8 @@ const fn one_of(every: usize, places: usize) -> Share {
 pub(super) fn inputs(seed: u64) -> Vec<Vec<u8>> {
     let mut stored = Vec::new();
     for (number, (kind, share)) in (0..).zip(SHARES) {
-        let mut inputs = taken(kind, share, inputs::inputs(kind, seed));
-        if kind == Kind::Headers {
-            inputs.extend(one_word_damaged(&mut Rng::new(seed)));
-        }
+        let mut inputs = taken(kind, share, mixture(kind, seed));
+        inputs.extend(telling::inputs(kind, seed));
         for input in inputs {
             stored.push([vec![number], input].concat());
         }
@@ -59,20 +53,7 @@ pub(super) fn inputs(seed: u64) -> Vec<Vec<u8>> {
     stored
 }
 
-/// Headers with 0 to 4 flips in one word, for each word.
-fn one_word_damaged(rng: &mut Rng) -> Vec<Vec<u8>> {
-    let mut inputs = Vec::new();
-    for word in 0..WORDS {
-        for flips in 0..=4 {
-            let mut air = fresh_header(rng, &[]).to_air();
-            flip_some(rng, &mut air, word, flips);
-            inputs.push(sized(&air, HEADER_ROOM));
-        }
-    }
-    inputs
-}
-
-/// What is taken of the inputs of a kind, in their order.
+/// What is taken of the mixture of a kind, in its order.
 fn taken(kind: Kind, share: Share, mut inputs: Vec<Vec<u8>>) -> Vec<Vec<u8>> {
     let mut told = Told::default();
     let mut number = 0;

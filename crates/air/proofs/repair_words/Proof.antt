@@ -1,4 +1,4 @@
--- `air::repair_words` meets its contract. Invariant: the words before j are repaired, and their flips counted.
+-- `air::repair_words` meets its contract. Invariant: the words before j are repaired, their patterns kept and their flips counted.
 -- Assumes nothing.
 use borrow.Author.Needs.{needs}
 use Prim.Native.Nat.{_-_}
@@ -8,10 +8,10 @@ use Rattle.air.proofs.repair_words.Statement.{statement}
 use Rattle.air.proofs.repair_words.Tie as tie
 
 abbrev Inv-loop : tie.InvT-loop
-Inv-loop table words repaired₀ total₀ j₀ repaired total j = Repairing words j repaired total
+Inv-loop table words repaired₀ patterns₀ total₀ j₀ repaired patterns total j = Repairing words j repaired patterns total
 
 abbrev μ-loop : tie.MeasureT-loop
-μ-loop table words repaired₀ total₀ j₀ repaired total j = wordCount - j
+μ-loop table words repaired₀ patterns₀ total₀ j₀ repaired patterns total j = wordCount - j
 
 loop-holds : tie.Need-loop-holds Inv-loop μ-loop
 loop-holds c = search (needs, repairs-start)
@@ -33,6 +33,12 @@ mul-repaired c = search needs
 
 array-write-repaired : tie.Need-array-write-repaired Inv-loop μ-loop
 array-write-repaired c = search needs
+
+mul-patterns : tie.Need-mul-patterns Inv-loop μ-loop
+mul-patterns c = search needs
+
+array-write-patterns : tie.Need-array-write-patterns Inv-loop μ-loop
+array-write-patterns c = search needs
 
 add-total : tie.Need-add-total Inv-loop μ-loop
 add-total c = search (needs, total-fits)
@@ -68,6 +74,8 @@ repair-words-spec =
     enum-known-word
     mul-repaired
     array-write-repaired
+    mul-patterns
+    array-write-patterns
     add-total
     enum-told
     returns

@@ -8,14 +8,17 @@ use Rattle.frame.proofs.read_frame_in.Tie as tie
 read-header-in-requires : tie.Need-read-header-in-requires
 read-header-in-requires c κs = search needs
 
-enum-known-why : tie.Need-enum-known-why
-enum-known-why c = search needs
+enum-known-answer : tie.Need-enum-known-answer
+enum-known-answer c = search needs
 
-enum-known-header : tie.Need-enum-known-header
-enum-known-header c = search needs
+enum-known-answer-2 : tie.Need-enum-known-answer-2
+enum-known-answer-2 c = search needs
 
 judge-payload-requires : tie.Need-judge-payload-requires
 judge-payload-requires c κs = search needs
+
+with-patterns-requires : tie.Need-with-patterns-requires
+with-patterns-requires c κs = search needs
 
 returns : tie.Need-returns
 returns c = search (needs, frame-refused)
@@ -28,8 +31,9 @@ read-frame-in-spec =
     tie.close
     (tie.spec
     read-header-in-requires
-    enum-known-why
-    enum-known-header
+    enum-known-answer
+    enum-known-answer-2
     judge-payload-requires
+    with-patterns-requires
     returns
     returns-2)

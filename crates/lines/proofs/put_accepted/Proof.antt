@@ -14,17 +14,8 @@ slice-aggregate-put-text c = search needs
 put-text-requires : tie.Need-put-text-requires
 put-text-requires c κs = search needs
 
-slice-aggregate-put-three : tie.Need-slice-aggregate-put-three
-slice-aggregate-put-three c = search needs
-
-slice-aggregate-put-three-2 : tie.Need-slice-aggregate-put-three-2
-slice-aggregate-put-three-2 c = search needs
-
-slice-aggregate-put-three-3 : tie.Need-slice-aggregate-put-three-3
-slice-aggregate-put-three-3 c = search needs
-
-put-three-requires : tie.Need-put-three-requires
-put-three-requires c κs = search needs
+put-damage-requires : tie.Need-put-damage-requires
+put-damage-requires c κs = search needs
 
 same-length : tie.Need-same-length
 same-length c = search needs
@@ -39,9 +30,6 @@ put-accepted-spec =
     put-opening-requires
     slice-aggregate-put-text
     put-text-requires
-    slice-aggregate-put-three
-    slice-aggregate-put-three-2
-    slice-aggregate-put-three-3
-    put-three-requires
+    put-damage-requires
     same-length
     returns)

@@ -8,6 +8,9 @@ use Rattle.lines.proofs.put_line.Tie as tie
 enum-known-answer : tie.Need-enum-known-answer
 enum-known-answer c = search needs
 
+worst-requires : tie.Need-worst-requires
+worst-requires c κs = search needs
+
 put-accepted-requires : tie.Need-put-accepted-requires
 put-accepted-requires c κs = search needs
 
@@ -21,19 +24,20 @@ same-length : tie.Need-same-length
 same-length c = search needs
 
 returns : tie.Need-returns
-returns c = search (needs, line-accepted)
+returns c = (search (needs, line-accepted), search needs)
 
 same-length-2 : tie.Need-same-length-2
 same-length-2 c = search needs
 
 returns-2 : tie.Need-returns-2
-returns-2 c = search (needs, line-refused)
+returns-2 c = (search (needs, line-refused), search needs)
 
 pub put-line-spec : {M : Type 1} → statement M
 put-line-spec =
     tie.close
     (tie.spec
     enum-known-answer
+    worst-requires
     put-accepted-requires
     enum-known-answer-2
     put-refused-requires

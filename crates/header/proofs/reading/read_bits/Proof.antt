@@ -11,15 +11,29 @@ words-requires c κs = search needs
 repair-words-requires : tie.Need-repair-words-requires
 repair-words-requires c κs = search needs
 
+refused-requires : tie.Need-refused-requires
+refused-requires c κs = search needs
+
 returns : tie.Need-returns
 returns c = search (needs, gives-3)
 
 judge-words-requires : tie.Need-judge-words-requires
 judge-words-requires c κs = search (needs, repaired)
 
+with-patterns-requires : tie.Need-with-patterns-requires
+with-patterns-requires c κs = search needs
+
 returns-2 : tie.Need-returns-2
 returns-2 c = search (needs, leaves)
 
 pub read-bits-spec : {M : Type 1} → statement M
 read-bits-spec =
-    tie.close (tie.spec words-requires repair-words-requires returns judge-words-requires returns-2)
+    tie.close
+    (tie.spec
+    words-requires
+    repair-words-requires
+    refused-requires
+    returns
+    judge-words-requires
+    with-patterns-requires
+    returns-2)

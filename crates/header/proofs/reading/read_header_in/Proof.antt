@@ -5,11 +5,17 @@ use Rattle.header.proofs.Rows.{gives-1, gives-2, all-bits}
 use Rattle.header.proofs.reading.read_header_in.Statement.{statement}
 use Rattle.header.proofs.reading.read_header_in.Tie as tie
 
+refused-requires : tie.Need-refused-requires
+refused-requires c κs = search needs
+
 returns : tie.Need-returns
 returns c = search (needs, gives-1)
 
 first-no-bit-requires : tie.Need-first-no-bit-requires
 first-no-bit-requires c κs = search needs
+
+refused-requires-2 : tie.Need-refused-requires-2
+refused-requires-2 c κs = search needs
 
 returns-2 : tie.Need-returns-2
 returns-2 c = search (needs, gives-2)
@@ -22,4 +28,12 @@ returns-3 c = search needs
 
 pub read-header-in-spec : {M : Type 1} → statement M
 read-header-in-spec =
-    tie.close (tie.spec returns first-no-bit-requires returns-2 read-bits-requires returns-3)
+    tie.close
+    (tie.spec
+    refused-requires
+    returns
+    first-no-bit-requires
+    refused-requires-2
+    returns-2
+    read-bits-requires
+    returns-3)
