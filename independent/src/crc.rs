@@ -29,7 +29,8 @@ impl Crc {
     /// "From the last to the first, each most significant bit first."
     ///
     /// The polynomial is added where the register's top bit differs from the data bit.
-    #[inline]
+    // Inlined always, so that width and polynomial are constants where it is used: whether they are is else left to chance.
+    #[inline(always)]
     pub fn of(&self, bytes: &[u8]) -> u16 {
         let top = self.width - 1;
         let mask = u16::MAX >> (u16::BITS - self.width);
