@@ -11,7 +11,7 @@ use Rattle.header.specs.declared.Fields.{Fields}
 use Rattle.header.specs.declared.Answer.the-variants.{Accepted}
 use Rattle.base.specs.declared.Written.the-variants.{Done}
 use Rattle.header.specs.Writing.{headerFor, HeaderWritten}
-use Rattle.header.proofs.WrittenAir.{Put, written as put}
+use Rattle.header.proofs.WrittenAir.{Sent, sent}
 use Rattle.air.specs.Air.{wordCount, airBits}
 use Rattle.frame.specs.Frames.{Frame, frame, frameRead}
 use Rattle.frame.specs.Accepting.{Accepts}
@@ -30,8 +30,8 @@ accepted-with-one = one-header
 
 -- the writer was handed some fields, a payload and an output, and wrote
 module _ (f : Fields) (payload before after : List ℕ) (written : HeaderWritten f payload before Done after) where
-  so : Put f payload after
-  so = put f payload before after written
+  so : Sent f payload after
+  so = sent f payload before after written
 
   -- "the bits those rules fix": the rules accept what stands in the output with the fields, PduLength and the checksums, and no flips
   pub written-accepted : Accepts (frame (take airBits after) payload) (headerFor f payload) 0 (replicate wordCount 0)

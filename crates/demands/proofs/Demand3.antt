@@ -22,7 +22,7 @@ use Rattle.header.specs.declared.Fields.{Fields}
 use Rattle.header.specs.declared.Answer.the-variants.{Accepted, Refused}
 use Rattle.base.specs.declared.Written.the-variants.{Done}
 use Rattle.header.specs.Writing.{headerFor, HeaderWritten}
-use Rattle.header.proofs.WrittenAir.{Put, written as put}
+use Rattle.header.proofs.WrittenAir.{Sent, sent}
 use Rattle.air.proofs.Flipped.{flipPatterns-bit, flipPatterns-total}
 use Rattle.frame.specs.Frames.{frame, frameOf, frameRead}
 use Rattle.frame.proofs.Damage.{restored-frame, restored-burst}
@@ -40,8 +40,8 @@ table-rows = (rows-with-pattern, rows-marked)
 -- the writer was handed some fields, a payload and an output, and wrote; on the way some of the 210 bits were flipped
 module _ (f : Fields) (payload before after : List ℕ) (written : HeaderWritten f payload before Done after)
     (air : List ℕ) (long : length air ≡ airBits) (bits : AreBits air) where
-  so : Put f payload after
-  so = put f payload before after written
+  so : Sent f payload after
+  so = sent f payload before after written
 
   -- "a written header with at most three flips in each word .. reads back as that very header with the exact number of flips"
   pub three-in-each-word : ((j : ℕ) → j < wordCount → flipsInWord air (take airBits after) j ≤ radius)

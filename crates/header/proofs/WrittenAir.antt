@@ -22,13 +22,13 @@ use Rattle.header.proofs.Passed.{Writable, write-passed}
 use Rattle.header.proofs.RoundTrip.{air-for-length}
 
 -- a header that was written: nothing stood against it, and its bits stand in front
-pub record Put (f : Fields) (payload after : List ℕ) : Type 0 where
+pub record Sent (f : Fields) (payload after : List ℕ) : Type 0 where
   pub writable : Writable f payload
   pub air : take airBits after ≡ airFor f payload
 
-pub written : (f : Fields) (payload before after : List ℕ) → HeaderWritten f payload before Done after → Put f payload after
+pub sent : (f : Fields) (payload before after : List ℕ) → HeaderWritten f payload before Done after → Sent f payload after
 unfolding writeHeaderOf
-written f payload before after so = record {
+sent f payload before after so = record {
   writable = write-passed f payload (length before) (first-passes Done Done (writeChecks f payload (length before)) (search (needs, not-done)) (sym (so .answered)) .1);
   air = rw (so .bytes) (take-at (airFor f payload) (drop airBits before) airBits (air-for-length f payload));
 }

@@ -67,6 +67,9 @@ fn data_of(word: u16) -> u64
     (word / DATA_BIT) as u64
 }
 
+// The words whose data are `hi`.
+const HI_WORDS: usize = 6;
+
 // The data of up to eight words, five bits each, as one number.
 fn collect(words: &[u16]) -> u64
     requires { ⌜ length (now words) ≤ 8 ⌝ }
@@ -118,8 +121,8 @@ fn judge_words(words: [u16; WORD_COUNT], flips: u32) -> Answer
     requires { ⌜ ((k : ℕ) → getD words k 0 < wordLimit) ⌝ }
     ensures { λ r. ⌜ r ≡ first (Answer.Accepted (headerOf (bitsOfWords words)) flips) (headerChecks (bitsOfWords words)) ⌝ }
 {
-    let hi = collect(&words[0..6]);
-    let lo = collect(&words[6..WORD_COUNT]);
+    let hi = collect(&words[0..HI_WORDS]);
+    let lo = collect(&words[HI_WORDS..WORD_COUNT]);
     judge(hi, lo, flips)
 }
 
