@@ -1,10 +1,11 @@
-//! The 70 header bits: fields, CRC5, the reader (refusals 1 to 6) and the writer (13 to 15).
+//! The 70 header bits: fields, CRC5, the reader (refusals 20, 1 to 6, 21) and the writer (13 to 15).
 
 use std::ops::{Index, IndexMut};
 
 use crate::air::{air_of, words_of, AIR_BITS, WORDS};
 use crate::crc::{crc13, CRC5};
 use crate::refusal::Refusal;
+use crate::rules::{Rules, LARGEST_LIMIT};
 use crate::word::{data, encode, repair, DATA_BITS};
 
 /// The fields in the paper's order; a field's number is its place in this list.
@@ -172,7 +173,11 @@ impl Heard {
 }
 
 /// Reads a header off the air.
-pub fn read_header(air: &[u8]) -> Result<Heard, Refusal> {
+pub fn read_header(rules: Rules, air: &[u8]) -> Result<Heard, Refusal> {
+    // 20: "limit above 42, before 1", the limit
+    if rules.limit > LARGEST_LIMIT {
+        return Err(Refusal::new(20, rules.limit as usize));
+    }
     // 1: "header slice is not 210 long", its length
     let Ok(air) = <&[u8; AIR_BITS]>::try_from(air) else {
         return Err(Refusal::new(1, air.len()));
@@ -190,6 +195,12 @@ pub fn read_header(air: &[u8]) -> Result<Heard, Refusal> {
         patterns[j] = repaired.pattern;
     }
     let header = Header::from_bits(bits);
+    let heard = Heard { header, patterns };
+    // 21: "flips above the limit, after 3 and before 4", the flips
+    let flips = heard.flips();
+    if flips > rules.limit {
+        return Err(Refusal::new(21, flips as usize));
+    }
     // 4: "CRC5 differs", CRC5 worked out
     let worked_out = flown_crc5(bits);
     if header[Field::Crc5] != worked_out {
@@ -205,7 +216,7 @@ pub fn read_header(air: &[u8]) -> Result<Heard, Refusal> {
     if ai_type_src > LARGEST_AI_TYPE_SRC {
         return Err(Refusal::new(6, ai_type_src));
     }
-    Ok(Heard { header, patterns })
+    Ok(heard)
 }
 
 /// Writes the header of a payload to the first 210 bytes of `out`; "bytes past 210 keep what they held".

@@ -1,20 +1,21 @@
 //! S-NET air headers, power pages and the pass sheet.
 //!
-//! A second implementation of paper 01 and of request f of paper 02, written from the papers alone, so
-//! that two programs that share no thought can be compared line by line. It prefers the plain way over
-//! the quick one: words are repaired by trying all 32 valid words, checksums run bit by bit.
+//! A second implementation of paper 01 and of requests b and f of paper 02, written from the papers
+//! alone, so that two programs that share no thought can be compared line by line. It prefers the plain
+//! way over the quick one: words are repaired by trying all 32 valid words, checksums run bit by bit.
 //!
 //! | module | part of the papers |
 //! |---|---|
 //! | [`refusal`] | "a refusal carries number and place only" |
+//! | [`rules`] | how a frame is read: the limit on its flips |
 //! | [`word`] | valid words, repair with its flip pattern |
 //! | [`air`] | 210 elements on air, fourteen words |
 //! | [`crc`] | CRC13, and the bit-by-bit rule of both checksums |
-//! | [`header`] | fields, CRC5, header read (1 to 6) and written (13 to 15), the worst word |
+//! | [`header`] | fields, CRC5, header read (20, 1 to 6, 21) and written (13 to 15), the worst word |
 //! | [`frame`] | header and payload together (7, 8) |
 //! | [`page`] | payload header, power page read (9 to 12) and written (18) |
 //! | [`shown`] | the shown value (16) |
-//! | [`sheet`] | the pass sheet (17) |
+//! | [`sheet`] | the pass sheet (17), what it counts |
 //! | [`listing`] | the listing |
 //!
 //! The rest makes material to compare with: [`rng`], [`sample`], [`season`], [`example`], [`vectors`].
@@ -28,6 +29,7 @@ pub mod listing;
 pub mod page;
 pub mod refusal;
 pub mod rng;
+pub mod rules;
 pub mod sample;
 pub mod season;
 pub mod sheet;

@@ -4,7 +4,13 @@ use std::io::{self, ErrorKind, Read, Write};
 
 use crate::air::AIR_BITS;
 use crate::header::{Field, LONGEST_PAYLOAD};
+use crate::rules::{Rules, LARGEST_LIMIT};
 use crate::sheet::Sheet;
+
+/// "The listing names 42 and prints what it did."
+const RULES: Rules = Rules {
+    limit: LARGEST_LIMIT,
+};
 
 /// What can fail in a listing; no input can.
 #[derive(Debug)]
@@ -64,7 +70,7 @@ fn list_record(
     }
     let number = sheet.offered();
     let payload = record.payload();
-    match sheet.offer(&record.header, payload) {
+    match sheet.offer(RULES, &record.header, payload) {
         Ok(heard) => {
             let src_id = heard.header[Field::SrcId];
             let satellite = ['A', 'B', 'C', 'D'][usize::from(src_id / 2)];

@@ -2,14 +2,14 @@
 
 use std::io::{self, Write};
 
-use crate::air::{air_index, AIR_BITS};
+use crate::air::{air_index, AIR_BITS, WORDS};
 use crate::crc::crc13;
 use crate::header::{Field, Header};
 use crate::rng::Rng;
-use crate::word::POSITIONS;
+use crate::word::{MOST_FLIPS, POSITIONS};
 
 /// The longest run of neighbouring air bits that is always repaired: three in each of fourteen words.
-pub const LONGEST_BURST: usize = 42;
+pub const LONGEST_BURST: usize = WORDS * MOST_FLIPS as usize;
 
 /// A record of the listing's input.
 #[derive(Clone, Debug, PartialEq, Eq)]

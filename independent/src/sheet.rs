@@ -3,12 +3,16 @@
 use crate::frame::read_frame;
 use crate::header::{Field, Heard, LARGEST_SRC_ID};
 use crate::refusal::Refusal;
+use crate::rules::Rules;
 
 /// "Eight records, one per SrcId."
 pub const SOURCES: usize = LARGEST_SRC_ID as usize + 1;
 
-/// "A count for each of the refusals 1 to 8."
-pub const COUNTED_REFUSALS: usize = 8;
+/// "A count for each of the refusals 1 to 8"; of 20 and 21, "the sheet counts both".
+pub const COUNTED: [u8; COUNTS] = [1, 2, 3, 4, 5, 6, 7, 8, 20, 21];
+
+/// The number of counts.
+pub const COUNTS: usize = 10;
 
 /// "After 65,535 offered frames the sheet is full."
 pub const FULL: usize = 65_535;
@@ -54,8 +58,8 @@ impl Source {
 pub struct Sheet {
     /// A record for each SrcId.
     pub sources: [Source; SOURCES],
-    /// How often each refusal was given; number 1 stands first.
-    pub refused: [u32; COUNTED_REFUSALS],
+    /// How often each refusal was given, in the order of [`COUNTED`].
+    pub refused: [u32; COUNTS],
 }
 
 impl Sheet {
@@ -84,23 +88,27 @@ impl Sheet {
         self.offered() >= FULL as u64
     }
 
+    /// Adds one to the count of this refusal, which is one of those that are counted.
+    fn refuse(&mut self, number: u8) {
+        if let Some(place) = COUNTED.iter().position(|&counted| counted == number) {
+            self.refused[place] = self.refused[place].saturating_add(1);
+        }
+    }
+
     /// Offers a frame: what the reader says of it is counted, and answered.
-    pub fn offer(&mut self, air: &[u8], payload: &[u8]) -> Result<Heard, Refusal> {
+    pub fn offer(&mut self, rules: Rules, air: &[u8], payload: &[u8]) -> Result<Heard, Refusal> {
         // 17: "sheet full, checked before anything else, sheet unchanged", place 65,535
         if self.is_full() {
             return Err(Refusal::new(17, FULL));
         }
-        let answer = read_frame(air, payload);
+        let answer = read_frame(rules, air, payload);
         match &answer {
             Ok(heard) => {
                 let source = &mut self.sources[usize::from(heard.header[Field::SrcId])];
                 // FrCntTx has four bits.
                 source.accept(heard.header[Field::FrCntTx] as u8, heard.flips());
             }
-            Err(refusal) => {
-                let count = &mut self.refused[usize::from(refusal.number) - 1];
-                *count = count.saturating_add(1);
-            }
+            Err(refusal) => self.refuse(refusal.number),
         }
         answer
     }
@@ -109,6 +117,7 @@ impl Sheet {
 #[cfg(test)]
 mod tests {
     use super::*;
+    use crate::rules::usual;
 
     /// A source after frames with these counters and no flips.
     fn after(counters: &[u8]) -> Source {
@@ -195,10 +204,10 @@ mod tests {
         sheet.refused[0] = 1;
         assert!(sheet.is_full());
         sheet.sources.iter_mut().for_each(|s| s.accepted = u32::MAX);
-        sheet.refused = [u32::MAX; COUNTED_REFUSALS];
-        assert_eq!(sheet.offered(), 16 * u64::from(u32::MAX));
+        sheet.refused = [u32::MAX; COUNTS];
+        assert_eq!(sheet.offered(), 18 * u64::from(u32::MAX));
         let before = sheet.clone();
-        assert_eq!(sheet.offer(&[], &[]), Err(Refusal::new(17, FULL)));
+        assert_eq!(sheet.offer(usual(), &[], &[]), Err(Refusal::new(17, FULL)));
         assert_eq!(sheet, before);
     }
 }

@@ -8,7 +8,11 @@ use independent::header::{
 };
 use independent::refusal::Refusal;
 use independent::rng::Rng;
+use independent::rules::{usual, Rules};
 use independent::sample::{burst, flip_pattern, flip_some, seal};
+
+/// The rules that refuse no frame for its flips.
+const WIDEST: Rules = Rules { limit: 42 };
 
 /// Fields in range, by chance.
 fn given(rng: &mut Rng) -> [u16; GIVEN] {
@@ -54,13 +58,13 @@ fn what_is_written_is_read_back() {
     for length in (0..=1_023).step_by(11) {
         let (given, payload) = (given(&mut rng), rng.bytes(length));
         let air = written(&given, &payload);
-        let heard = read_frame(&air, &payload).unwrap();
+        let heard = read_frame(WIDEST, &air, &payload).unwrap();
         assert_eq!(heard.patterns, [0; WORDS]);
         assert_eq!(heard.header.values[..GIVEN], given);
         assert_eq!(usize::from(heard.header[Field::PduLength]), length);
         assert_eq!(heard.header[Field::Crc13], crc13(&payload));
         assert_eq!(heard.header[Field::Crc5], heard.header.crc5());
-        assert_eq!(read_header(&air), Ok(heard));
+        assert_eq!(read_header(WIDEST, &air), Ok(heard));
     }
 }
 
@@ -77,8 +81,8 @@ fn up_to_three_flips_a_word_are_undone_counted_and_told() {
             flip_some(&mut rng, &mut air, word, count);
             flips += count;
         }
-        let header = read_frame(&clean, &payload).unwrap().header;
-        let heard = read_frame(&air, &payload).unwrap();
+        let header = read_frame(WIDEST, &clean, &payload).unwrap().header;
+        let heard = read_frame(WIDEST, &air, &payload).unwrap();
         let patterns = flipped(&clean, &air);
         assert_eq!(heard, Heard { header, patterns });
         assert_eq!(heard.flips(), flips);
@@ -93,7 +97,7 @@ fn air_bit_14_i_plus_j_is_bit_i_of_pattern_j() {
         air[n] ^= 1;
         let mut patterns = [0; WORDS];
         patterns[n % 14] = 1 << (n / 14);
-        let heard = read_header(&air).unwrap();
+        let heard = read_header(WIDEST, &air).unwrap();
         assert_eq!(heard.patterns, patterns);
         assert_eq!((heard.flips(), heard.worst()), (1, n % 14));
     }
@@ -117,7 +121,7 @@ fn marked_words_in_a_header_give_their_patterns() {
             assert_eq!(u16::from(*bit), word >> position & 1);
             *bit = (received >> position & 1) as u8;
         }
-        let heard = read_frame(&air, &[]).unwrap();
+        let heard = read_frame(WIDEST, &air, &[]).unwrap();
         assert_eq!(heard.patterns, patterns);
         assert_eq!(heard.flips(), pattern.count_ones());
         assert_eq!(heard.worst(), usize::from(pattern != 0));
@@ -127,7 +131,7 @@ fn marked_words_in_a_header_give_their_patterns() {
 #[test]
 fn flips_in_parity_positions_are_told_as_others_are() {
     let clean = written(&given(&mut Rng::new(13)), &[]);
-    let header = read_header(&clean).unwrap().header;
+    let header = read_header(WIDEST, &clean).unwrap().header;
     let mut air = clean;
     let mut patterns = [0; WORDS];
     // Positions 0 to 9 are parity: of words 8 and 9 nothing else, of word 3 none.
@@ -135,7 +139,7 @@ fn flips_in_parity_positions_are_told_as_others_are() {
     for (word, &pattern) in patterns.iter().enumerate() {
         flip_pattern(&mut air, word, pattern);
     }
-    let heard = read_header(&air).unwrap();
+    let heard = read_header(WIDEST, &air).unwrap();
     assert_eq!(heard, Heard { header, patterns });
     assert_eq!((heard.flips(), heard.worst()), (8, 8));
 }
@@ -148,7 +152,7 @@ fn three_flips_in_every_word_are_42() {
         for word in 0..WORDS {
             flip_some(&mut rng, &mut air, word, 3);
         }
-        let heard = read_frame(&air, &[]).unwrap();
+        let heard = read_frame(WIDEST, &air, &[]).unwrap();
         assert_eq!(heard.patterns.map(u16::count_ones), [3; WORDS]);
         assert_eq!((heard.flips(), heard.worst()), (42, 0));
     }
@@ -158,12 +162,12 @@ fn three_flips_in_every_word_are_42() {
 fn a_burst_of_42_neighbours_is_undone_wherever_it_stands() {
     let mut rng = Rng::new(4);
     let clean = written(&given(&mut rng), &[]);
-    let header = read_header(&clean).unwrap().header;
+    let header = read_header(WIDEST, &clean).unwrap().header;
     for length in 0..=42 {
         for start in 0..=AIR_BITS - length {
             let mut air = clean;
             burst(&mut air, start, length);
-            let heard = read_header(&air).unwrap();
+            let heard = read_header(WIDEST, &air).unwrap();
             let patterns = flipped(&clean, &air);
             assert_eq!(heard, Heard { header, patterns });
             assert_eq!(heard.flips() as usize, length);
@@ -179,23 +183,29 @@ fn a_burst_of_42_neighbours_is_undone_wherever_it_stands() {
 fn a_burst_of_43_neighbours_is_never_undone() {
     let mut rng = Rng::new(5);
     let clean = written(&given(&mut rng), &[]);
-    let header = read_header(&clean).unwrap().header;
+    let header = read_header(WIDEST, &clean).unwrap().header;
     for start in 0..=AIR_BITS - 43 {
         let mut air = clean;
         burst(&mut air, start, 43);
-        assert_ne!(read_header(&air).map(|heard| heard.header), Ok(header));
+        assert_ne!(
+            read_header(WIDEST, &air).map(|heard| heard.header),
+            Ok(header)
+        );
     }
     // The first of them gives word 0 the pattern 0x000F, which is beyond repair.
     let mut air = clean;
     burst(&mut air, 0, 43);
-    assert_eq!(read_header(&air), refusal(3, 0));
+    assert_eq!(read_header(WIDEST, &air), refusal(3, 0));
 }
 
 #[test]
 fn refusal_1_is_another_length() {
     for length in (0..AIR_BITS).chain(AIR_BITS + 1..300) {
-        assert_eq!(read_header(&vec![0; length]), refusal(1, length));
-        assert_eq!(read_frame(&vec![7; length], &[1]), refusal(1, length));
+        assert_eq!(read_header(WIDEST, &vec![0; length]), refusal(1, length));
+        assert_eq!(
+            read_frame(WIDEST, &vec![7; length], &[1]),
+            refusal(1, length)
+        );
     }
 }
 
@@ -206,15 +216,15 @@ fn refusal_2_is_the_lowest_element_above_1() {
             let mut air = [1; AIR_BITS];
             air[index] = value;
             air[AIR_BITS - 1] = value;
-            assert_eq!(read_header(&air), refusal(2, index));
+            assert_eq!(read_header(WIDEST, &air), refusal(2, index));
         }
     }
     // before 3
     let mut air = [0; AIR_BITS];
     flip_pattern(&mut air, 0, 0x000F);
-    assert_eq!(read_header(&air), refusal(3, 0));
+    assert_eq!(read_header(WIDEST, &air), refusal(3, 0));
     air[AIR_BITS - 1] = 2;
-    assert_eq!(read_header(&air), refusal(2, AIR_BITS - 1));
+    assert_eq!(read_header(WIDEST, &air), refusal(2, AIR_BITS - 1));
 }
 
 #[test]
@@ -222,22 +232,169 @@ fn refusal_3_is_the_lowest_word_beyond_repair() {
     for word in 0..WORDS {
         let mut air = sealed(&[], |_| {});
         flip_pattern(&mut air, word, 0x000F);
-        assert_eq!(read_header(&air), refusal(3, word));
+        assert_eq!(read_header(WIDEST, &air), refusal(3, word));
         flip_pattern(&mut air, WORDS - 1, if word < 13 { 0x000F } else { 0 });
-        assert_eq!(read_header(&air), refusal(3, word));
+        assert_eq!(read_header(WIDEST, &air), refusal(3, word));
     }
 }
 
 #[test]
 fn refusal_4_gives_the_crc5_worked_out() {
-    assert_eq!(read_header(&[0; AIR_BITS]), refusal(4, 6));
+    assert_eq!(read_header(WIDEST, &[0; AIR_BITS]), refusal(4, 6));
     for wrong in 1..32 {
         let mut header = Header::default();
         header[Field::SrcId] = 100;
         header[Field::AiTypeSrc] = 9;
         let right = header.crc5();
         header[Field::Crc5] = right ^ wrong;
-        assert_eq!(read_header(&header.to_air()), refusal(4, right.into()));
+        assert_eq!(
+            read_header(WIDEST, &header.to_air()),
+            refusal(4, right.into())
+        );
+    }
+}
+
+/// A header with so many flips in all, at most three in a word, in words by chance.
+fn with_flips(rng: &mut Rng, clean: &[u8; AIR_BITS], total: u32) -> [u8; AIR_BITS] {
+    let mut counts = [0; WORDS];
+    for _ in 0..total {
+        let open: Vec<usize> = (0..WORDS).filter(|&word| counts[word] < 3).collect();
+        counts[open[rng.below(open.len() as u32) as usize]] += 1;
+    }
+    let mut air = *clean;
+    for (word, count) in counts.into_iter().enumerate() {
+        flip_some(rng, &mut air, word, count);
+    }
+    air
+}
+
+#[test]
+fn refusal_21_is_a_total_of_flips_above_the_limit() {
+    let mut rng = Rng::new(14);
+    let clean = written(&given(&mut rng), &[]);
+    let header = read_header(WIDEST, &clean).unwrap().header;
+    for limit in 0..=42 {
+        for total in 0..=42 {
+            let air = with_flips(&mut rng, &clean, total);
+            let heard = if total <= limit {
+                let patterns = flipped(&clean, &air);
+                Ok(Heard { header, patterns })
+            } else {
+                refusal(21, total as usize)
+            };
+            assert_eq!(read_header(Rules { limit }, &air), heard);
+            assert_eq!(read_frame(Rules { limit }, &air, &[]), heard);
+        }
+    }
+}
+
+#[test]
+fn a_caller_that_names_no_limit_has_28() {
+    let mut rng = Rng::new(15);
+    let clean = written(&given(&mut rng), &[]);
+    for total in 0..=42 {
+        let air = with_flips(&mut rng, &clean, total);
+        let answer = read_frame(usual(), &air, &[]).map(|heard| heard.flips());
+        let expected = if total <= 28 {
+            Ok(total)
+        } else {
+            refusal(21, total as usize)
+        };
+        assert_eq!(answer, expected);
+        assert_eq!(
+            answer,
+            read_frame(Rules { limit: 28 }, &air, &[]).map(|heard| heard.flips())
+        );
+    }
+}
+
+#[test]
+fn a_burst_of_up_to_the_limit_is_undone_and_a_longer_one_is_not() {
+    let clean = written(&given(&mut Rng::new(16)), &[]);
+    let header = read_header(WIDEST, &clean).unwrap().header;
+    for limit in [0, 1, 14, 28, 41, 42] {
+        for length in 0..=42 {
+            for start in 0..=AIR_BITS - length {
+                let mut air = clean;
+                burst(&mut air, start, length);
+                let answer = read_header(Rules { limit }, &air).map(|heard| heard.header);
+                let undone = length <= limit as usize;
+                assert_eq!(
+                    answer,
+                    if undone {
+                        Ok(header)
+                    } else {
+                        refusal(21, length)
+                    }
+                );
+            }
+        }
+    }
+}
+
+#[test]
+fn flips_in_parity_positions_count_against_the_limit() {
+    let clean = written(&given(&mut Rng::new(17)), &[]);
+    for pattern in [0x0001, 0x0201, 0x0007, 0x4000, 0x7000] {
+        let mut air = clean;
+        flip_pattern(&mut air, 6, pattern);
+        let ones = pattern.count_ones();
+        let limit = ones - 1;
+        assert_eq!(
+            read_header(Rules { limit }, &air),
+            refusal(21, ones as usize)
+        );
+        assert!(read_header(Rules { limit: ones }, &air).is_ok());
+    }
+}
+
+#[test]
+fn refusal_21_comes_after_3_and_before_4() {
+    let mut air = sealed(&[], |header| {
+        header[Field::SrcId] = 100;
+        header[Field::AiTypeSrc] = 9;
+    });
+    flip_pattern(&mut air, 0, 0x0007);
+    flip_pattern(&mut air, 13, 0x0001);
+    let limited = |limit: u32, air: &[u8]| read_frame(Rules { limit }, air, &[1]);
+    // 5 under a right CRC5, 4 under a wrong one: 21 comes before both of them.
+    assert_eq!(limited(4, &air), refusal(5, 100));
+    assert_eq!(limited(3, &air), refusal(21, 4));
+    // word 13 as another valid word: CRC5 is another one
+    flip_pattern(&mut air, 13, 0x0537);
+    assert!(matches!(limited(4, &air), Err(Refusal { number: 4, .. })));
+    assert_eq!(limited(3, &air), refusal(21, 4));
+    // A word beyond repair, the last of all, comes before 21; an element above 1 and a length before both.
+    flip_pattern(&mut air, 12, 0x000F);
+    assert_eq!(limited(0, &air), refusal(3, 12));
+    air[209] = 2;
+    assert_eq!(limited(0, &air), refusal(2, 209));
+    assert_eq!(limited(0, &air[1..]), refusal(1, 209));
+}
+
+#[test]
+fn refusal_20_is_a_limit_above_42_and_comes_before_everything() {
+    let good = sealed(&[], |_| {});
+    let above = [2; AIR_BITS];
+    let mut beyond = good;
+    flip_pattern(&mut beyond, 0, 0x000F);
+    let (zeros, short) = ([0; AIR_BITS], [0; 209]);
+    let slices: [&[u8]; 6] = [&good, &above, &beyond, &zeros, &short, &[]];
+    for limit in [43, 44, 84, 255, 256, 298, 65_535, 65_536 + 42, u32::MAX] {
+        for slice in slices {
+            assert_eq!(
+                read_header(Rules { limit }, slice),
+                refusal(20, limit as usize)
+            );
+            assert_eq!(
+                read_frame(Rules { limit }, slice, &[1]),
+                refusal(20, limit as usize)
+            );
+        }
+    }
+    for limit in 0..=42 {
+        assert!(read_frame(Rules { limit }, &good, &[]).is_ok());
+        assert_eq!(read_header(Rules { limit }, &short), refusal(1, 209));
     }
 }
 
@@ -247,7 +404,7 @@ fn crc5_is_judged_after_repair() {
     for word in 0..WORDS {
         flip_pattern(&mut air, word, 0x7000);
     }
-    assert_eq!(read_header(&air), refusal(4, 6));
+    assert_eq!(read_header(WIDEST, &air), refusal(4, 6));
 }
 
 #[test]
@@ -258,7 +415,7 @@ fn refusals_5_and_6_are_the_values_out_of_range() {
                 header[Field::SrcId] = src_id;
                 header[Field::AiTypeSrc] = ai_type_src;
             });
-            let number = match read_header(&air) {
+            let number = match read_header(WIDEST, &air) {
                 Ok(heard) => {
                     assert_eq!(heard.header[Field::SrcId], src_id);
                     0
@@ -294,7 +451,7 @@ fn other_fields_are_carried_without_limits() {
         header[Field::SrcId] = 7;
         header[Field::AiTypeSrc] = 3;
     });
-    let heard = read_header(&air).unwrap();
+    let heard = read_header(WIDEST, &air).unwrap();
     assert_eq!(heard.header[Field::AiTypeDst], 15);
     assert_eq!(heard.header[Field::DstId], 127);
 }
@@ -310,7 +467,7 @@ fn refusal_7_gives_pdu_length() {
         });
         for length in 0..2_100 {
             if length != usize::from(pdu_length) {
-                let answer = read_frame(&air, &payload[..length]);
+                let answer = read_frame(WIDEST, &air, &payload[..length]);
                 assert_eq!(answer, refusal(7, pdu_length.into()));
             }
         }
@@ -320,7 +477,7 @@ fn refusal_7_gives_pdu_length() {
 #[test]
 fn refusal_7_comes_after_6() {
     let air = sealed(&[], |header| header[Field::AiTypeSrc] = 4);
-    assert_eq!(read_frame(&air, &[1]), refusal(6, 4));
+    assert_eq!(read_frame(WIDEST, &air, &[1]), refusal(6, 4));
 }
 
 #[test]
@@ -331,7 +488,7 @@ fn refusal_8_gives_the_crc13_worked_out() {
         let right = crc13(&payload);
         for bit in 0..13 {
             let air = sealed(&payload, |header| header[Field::Crc13] ^= 1 << bit);
-            assert_eq!(read_frame(&air, &payload), refusal(8, right.into()));
+            assert_eq!(read_frame(WIDEST, &air, &payload), refusal(8, right.into()));
         }
     }
 }

@@ -8,12 +8,16 @@ use independent::frame::read_frame;
 use independent::header::{Field, Header, Heard};
 use independent::listing::list;
 use independent::rng::Rng;
+use independent::rules::Rules;
 use independent::sample::{flip_pattern, seal, Record};
 use independent::season::{write_season, Cut, Full, Options};
 use independent::sheet::Sheet;
 use telling::all_sorts_in;
 
 mod telling;
+
+/// "The listing names 42 and prints what it did."
+const LISTED: Rules = Rules { limit: 42 };
 
 fn listed(mut input: &[u8]) -> String {
     let mut output = Vec::new();
@@ -169,7 +173,7 @@ heard 16 accepted 9 refused 7
     assert_eq!(listed(&bytes), expected);
     let mut sheet = Sheet::new();
     for record in example() {
-        let _ = sheet.offer(&record.header, &record.payload);
+        let _ = sheet.offer(LISTED, &record.header, &record.payload);
     }
     assert_eq!((sheet.sources[0].missed, sheet.sources[4].repeats), (2, 1));
 }
@@ -214,14 +218,16 @@ fn a_season_has_everything() {
     let (mut flips, mut lengths) = (BTreeSet::new(), BTreeSet::new());
     let mut patterns = Vec::new();
     for record in &records {
-        if let Ok(heard) = sheet.offer(&record.header, &record.payload) {
+        if let Ok(heard) = sheet.offer(LISTED, &record.header, &record.payload) {
             flips.insert(heard.flips());
             patterns.push(heard.patterns);
             lengths.insert(record.payload.len());
         }
     }
+    // 1 to 8; 20 and 21 are not given under the largest limit
     assert_eq!(sheet.refused[0], 0);
-    assert!(sheet.refused[1..].iter().all(|&count| count > 20));
+    assert!(sheet.refused[1..8].iter().all(|&count| count > 20));
+    assert_eq!(sheet.refused[8..], [0, 0]);
     for source in sheet.sources {
         assert!(source.accepted > 100 && source.missed > 0 && source.repeats > 0);
     }
@@ -233,7 +239,9 @@ fn a_season_has_everything() {
 /// What is accepted of a season.
 fn heard_of(options: &Options) -> Vec<Heard> {
     let records = records_of(&season(options));
-    let heard = records.iter().map(|r| read_frame(&r.header, &r.payload));
+    let heard = records
+        .iter()
+        .map(|r| read_frame(LISTED, &r.header, &r.payload));
     heard.filter_map(Result::ok).collect()
 }
 
@@ -264,7 +272,9 @@ fn a_clean_season_is_accepted() {
     let mut flips = 0;
     for record in &records {
         assert_eq!(record.payload.len(), 62);
-        flips += read_frame(&record.header, &record.payload).unwrap().flips();
+        flips += read_frame(LISTED, &record.header, &record.payload)
+            .unwrap()
+            .flips();
     }
     assert_eq!(records.len(), 500);
     assert!(flips > 500);
@@ -280,9 +290,9 @@ fn a_season_of_one_payload_length_is_refused_in_every_way_too() {
         let mut sheet = Sheet::new();
         for record in records_of(&season(&fixed)) {
             assert_eq!(record.payload.len(), length);
-            let _ = sheet.offer(&record.header, &record.payload);
+            let _ = sheet.offer(LISTED, &record.header, &record.payload);
         }
-        assert!(sheet.refused[1..].iter().all(|&count| count > 5));
+        assert!(sheet.refused[1..8].iter().all(|&count| count > 5));
     }
 }
 
@@ -320,6 +330,13 @@ fn hash(bytes: &[u8]) -> u64 {
     bytes.iter().fold(0xCBF2_9CE4_8422_2325, |hash, &byte| {
         (hash ^ u64::from(byte)).wrapping_mul(0x0100_0000_01B3)
     })
+}
+
+#[test]
+fn a_listing_is_the_same_on_every_machine() {
+    // A program that knows no limit wrote the same.
+    let pinned = 4_435_738_169_465_772_174;
+    assert_eq!(hash(listed(&season(&options(1, 3_000))).as_bytes()), pinned);
 }
 
 #[test]

@@ -4,7 +4,8 @@ use independent::air::AIR_BITS;
 use independent::header::{Field, Header};
 use independent::refusal::Refusal;
 use independent::rng::Rng;
-use independent::sample::{flip_pattern, seal};
+use independent::rules::{usual, Rules};
+use independent::sample::{burst, flip_pattern, seal};
 use independent::sheet::{Sheet, Source, FULL};
 
 /// A frame without payload.
@@ -22,7 +23,7 @@ fn accepted_frames_touch_their_source_alone() {
     for (src_id, fr_cnt_tx) in [(0, 14), (5, 3), (0, 1), (5, 3), (0, 1), (5, 2)] {
         let mut air = frame(src_id, fr_cnt_tx);
         flip_pattern(&mut air, 2, 0x4001);
-        let heard = sheet.offer(&air, &[]).unwrap();
+        let heard = sheet.offer(usual(), &air, &[]).unwrap();
         let patterns = [0, 0, 0x4001, 0, 0, 0, 0, 0, 0, 0, 0, 0, 0, 0];
         assert_eq!(heard.patterns, patterns);
         assert_eq!((heard.flips(), heard.worst()), (2, 2));
@@ -49,7 +50,7 @@ fn accepted_frames_touch_their_source_alone() {
 #[test]
 fn refused_frames_touch_no_source() {
     let mut sheet = Sheet::new();
-    sheet.offer(&frame(1, 4), &[]).unwrap();
+    sheet.offer(usual(), &frame(1, 4), &[]).unwrap();
     let source = sheet.sources[1];
 
     let good = frame(1, 9);
@@ -76,18 +77,71 @@ fn refused_frames_touch_no_source() {
     ];
     for (i, (air, payload)) in offers.into_iter().enumerate() {
         let before = sheet.refused;
-        let refusal = sheet.offer(air, payload).unwrap_err();
+        let refusal = sheet.offer(usual(), air, payload).unwrap_err();
         assert_eq!(usize::from(refusal.number), i + 1);
         let mut after = before;
         after[i] += 1;
         assert_eq!(sheet.refused, after);
     }
-    assert_eq!(sheet.refused, [1; 8]);
+    assert_eq!(sheet.refused, [1, 1, 1, 1, 1, 1, 1, 1, 0, 0]);
     assert_eq!(sheet.sources[1], source);
     assert_eq!(sheet.offered(), 9);
     // Counter 9 was only ever refused: from 4 to 5 nothing is missed.
-    sheet.offer(&frame(1, 5), &[]).unwrap();
+    sheet.offer(usual(), &frame(1, 5), &[]).unwrap();
     assert_eq!(sheet.sources[1].missed, 0);
+}
+
+/// A frame with 29 flips, one more than are believed where no limit is named.
+fn faded(src_id: u16, fr_cnt_tx: u16) -> [u8; AIR_BITS] {
+    let mut air = frame(src_id, fr_cnt_tx);
+    burst(&mut air, 80, 29);
+    air
+}
+
+#[test]
+fn limits_are_counted_and_are_in_the_total() {
+    let mut sheet = Sheet::new();
+    let limit = |limit| Rules { limit };
+    assert_eq!(
+        sheet.offer(limit(43), &[], &[]),
+        Err(Refusal::new(20, 43usize))
+    );
+    assert_eq!(
+        sheet.offer(usual(), &faded(3, 1), &[]),
+        Err(Refusal::new(21, 29usize))
+    );
+    assert_eq!(
+        sheet.offer(limit(28), &faded(3, 1), &[]),
+        Err(Refusal::new(21, 29usize))
+    );
+    assert_eq!(sheet.refused, [0, 0, 0, 0, 0, 0, 0, 0, 1, 2]);
+    assert_eq!((sheet.offered(), sheet.refused_total()), (3, 3));
+    assert_eq!(sheet.sources, Sheet::new().sources);
+    // The limit is the offer's, not the sheet's.
+    let heard = sheet.offer(limit(29), &faded(3, 1), &[]).unwrap();
+    assert_eq!((heard.flips(), sheet.sources[3].repaired), (29, 29));
+    assert_eq!((sheet.offered(), sheet.accepted_total()), (4, 1));
+}
+
+#[test]
+fn refusal_20_comes_after_17_and_fills_a_sheet_as_others_do() {
+    for (place, offer) in [(8, 43), (9, 0), (8, u32::MAX)] {
+        let mut sheet = Sheet::new();
+        sheet.refused[place] = FULL as u32 - 1;
+        let rules = Rules { limit: offer };
+        let number = if offer == 0 { 21 } else { 20 };
+        assert_eq!(
+            sheet.offer(rules, &faded(0, 0), &[]).unwrap_err().number,
+            number
+        );
+        assert_eq!(sheet.refused[place], FULL as u32);
+        let full = sheet.clone();
+        for limit in [0, 28, 43, u32::MAX] {
+            let answer = sheet.offer(Rules { limit }, &faded(0, 0), &[]);
+            assert_eq!(answer, Err(Refusal::new(17, FULL)));
+        }
+        assert_eq!(sheet, full);
+    }
 }
 
 #[test]
@@ -96,9 +150,9 @@ fn a_sheet_is_full_after_65535_offers() {
     let (good, bad) = (frame(6, 0), [2; AIR_BITS]);
     for offer in 0..FULL {
         let answer = if offer % 1_000 == 0 {
-            sheet.offer(&good, &[]).err()
+            sheet.offer(usual(), &good, &[]).err()
         } else {
-            sheet.offer(&bad, &[]).err()
+            sheet.offer(usual(), &bad, &[]).err()
         };
         assert_ne!(answer.map(|refusal| refusal.number), Some(17));
     }
@@ -108,7 +162,10 @@ fn a_sheet_is_full_after_65535_offers() {
         (66, 65_469)
     );
     for air in [&good[..], &bad[..], &[]] {
-        assert_eq!(sheet.offer(air, &[]), Err(Refusal::new(17, 65_535usize)));
+        assert_eq!(
+            sheet.offer(usual(), air, &[]),
+            Err(Refusal::new(17, 65_535usize))
+        );
     }
     assert_eq!(sheet, before);
 }
@@ -121,7 +178,7 @@ fn accepted_and_refused_are_the_history() {
     for _ in 0..500 {
         let mut air = frame(rng.below(8) as u16, rng.below(16) as u16);
         flip_pattern(&mut air, 4, rng.below(0x8000) as u16);
-        match sheet.offer(&air, &[]) {
+        match sheet.offer(usual(), &air, &[]) {
             Ok(_) => accepted += 1,
             Err(_) => refused += 1,
         }
@@ -143,8 +200,8 @@ fn made_up_counts_stay_at_the_largest() {
     };
     let mut air = frame(2, 8);
     flip_pattern(&mut air, 0, 1);
-    sheet.offer(&air, &[]).unwrap();
-    sheet.offer(&frame(2, 12), &[]).unwrap();
+    sheet.offer(usual(), &air, &[]).unwrap();
+    sheet.offer(usual(), &frame(2, 12), &[]).unwrap();
     let expected = Source {
         accepted: 65_535,
         repaired: u32::MAX,
@@ -153,5 +210,5 @@ fn made_up_counts_stay_at_the_largest() {
         last: Some(12),
     };
     assert_eq!(sheet.sources[2], expected);
-    assert_eq!(sheet.offer(&air, &[]), Err(Refusal::new(17, FULL)));
+    assert_eq!(sheet.offer(usual(), &air, &[]), Err(Refusal::new(17, FULL)));
 }

@@ -33,8 +33,8 @@ fn lines(kind: Kind) -> Vec<String> {
 }
 
 /// The size of a record of each kind, and of a reply.
-const SIZES: [usize; 11] = [2, 1, 2_049, 65, 258, 20, 262, 1_102, 36, 20, 390];
-const REPLY_SIZES: [usize; 11] = [12, 3, 4, 1, 60, 267, 60, 80, 75, 17, 236];
+const SIZES: [usize; 11] = [2, 1, 2_049, 65, 262, 20, 266, 1_102, 36, 20, 402];
+const REPLY_SIZES: [usize; 11] = [12, 3, 4, 1, 60, 267, 60, 80, 75, 17, 244];
 
 #[test]
 fn every_input_has_its_size_its_reply_and_its_line() {
@@ -98,14 +98,23 @@ fn every_answer_is_among_the_lines() {
         "refused 4 ",
         "refused 5 ",
         "refused 6 ",
+        "refused 20 ",
+        "refused 21 ",
         "refused 7 ",
         "refused 8 ",
     ];
-    has(Kind::Headers, &frame[..7]);
+    has(Kind::Headers, &frame[..9]);
     has(Kind::Frames, &frame);
     has(
         Kind::Sheets,
-        &["accepted ", "refused 2 ", "refused 8 ", "refused 17 65535 "],
+        &[
+            "accepted ",
+            "refused 2 ",
+            "refused 8 ",
+            "refused 17 65535 ",
+            "refused 20 43 ",
+            "refused 21 ",
+        ],
     );
     has(
         Kind::Writes,
@@ -203,9 +212,12 @@ fn stored_records_have_every_answer_of_their_kind() {
     assert_eq!(stored[Kind::Encode as usize].len(), 32);
     for (kind, accepted, refusals) in [
         (Kind::Headers, "accepted ", 1..=6),
+        (Kind::Headers, "accepted ", 20..=21),
         (Kind::Frames, "accepted ", 1..=8),
+        (Kind::Frames, "accepted ", 20..=21),
         (Kind::Sheets, "accepted ", 2..=8),
         (Kind::Sheets, "accepted ", 17..=17),
+        (Kind::Sheets, "accepted ", 20..=21),
         (Kind::Pages, "page ", 9..=12),
         (Kind::Writes, "written ", 13..=15),
         (Kind::Shown, "nan", 16..=16),
@@ -247,7 +259,7 @@ fn stored_records_have_the_limits_of_their_kind() {
     for length in [0u16, 1_023, 1_024] {
         has(Kind::Crc13, 0, &length.to_be_bytes());
         has(Kind::Writes, 16, &length.to_be_bytes());
-        has(Kind::Frames, 258, &length.to_be_bytes());
+        has(Kind::Frames, 262, &length.to_be_bytes());
         has(Kind::Pages, 0, &length.to_be_bytes());
     }
     for spread in [0u16, 1, 32_767, 32_768, 65_535] {
@@ -274,13 +286,18 @@ fn stored_records_have_the_limits_of_their_kind() {
     assert!([0, 1, 2, 3, 42].into_iter().all(repaired));
 }
 
-/// The header bytes of a record of `sheets`, `headers` or `frames`: behind the sheet, or behind their length.
+/// The limit that a record of `headers`, `frames` or `sheets` names.
+fn limit_of(record: &[u8]) -> u32 {
+    u32::from_be_bytes(*record.first_chunk().unwrap())
+}
+
+/// The header bytes of a record of `sheets`, `headers` or `frames`: behind limit and sheet, or behind limit and length.
 fn header_of(kind: Kind, record: &[u8]) -> &[u8] {
     if kind == Kind::Sheets {
-        return &record[176..][..210];
+        return &record[4 + 184..][..210];
     }
-    let length = u16::from_be_bytes([record[0], record[1]]);
-    &record[2..][..usize::from(length)]
+    let length = u16::from_be_bytes([record[4], record[5]]);
+    &record[6..][..usize::from(length)]
 }
 
 /// The fourteen patterns behind answer, fields and flips.
@@ -320,9 +337,9 @@ fn accepted_replies_have_the_pattern_of_every_word_and_their_ones_in_all() {
 fn beside_a_refusal_everything_else_is_0_although_bits_were_flipped() {
     let stored = stored();
     for (kind, numbers) in [
-        (Kind::Headers, vec![1, 2, 3, 4, 5, 6]),
-        (Kind::Frames, vec![1, 2, 3, 4, 5, 6, 7, 8]),
-        (Kind::Sheets, vec![2, 3, 4, 5, 6, 7, 8, 17]),
+        (Kind::Headers, vec![1, 2, 3, 4, 5, 6, 20, 21]),
+        (Kind::Frames, vec![1, 2, 3, 4, 5, 6, 7, 8, 20, 21]),
+        (Kind::Sheets, vec![2, 3, 4, 5, 6, 7, 8, 17, 20, 21]),
     ] {
         let mut flipped = BTreeSet::new();
         for vector in stored[kind as usize].iter().filter(|v| v.reply[0] != 0) {
@@ -334,6 +351,106 @@ fn beside_a_refusal_everything_else_is_0_although_bits_were_flipped() {
             }
         }
         assert!(flipped.into_iter().eq(numbers), "{kind:?}");
+    }
+}
+
+/// Number and place of a reply's refusal, 0 and 0 where there is none.
+fn answer_of(reply: &[u8]) -> (u8, u64) {
+    (
+        reply[0],
+        u64::from_be_bytes(reply[1..9].try_into().unwrap()),
+    )
+}
+
+#[test]
+fn every_limit_is_named_with_totals_below_at_and_above_it() {
+    let stored = stored();
+    let mut named = BTreeSet::new();
+    let mut judged = BTreeSet::new();
+    for vector in &stored[Kind::Headers as usize] {
+        let (limit, answer) = (limit_of(&vector.record), answer_of(&vector.reply));
+        named.insert(limit);
+        if limit > 42 {
+            assert_eq!(answer, (20, limit.into()));
+        } else if [0, 21].contains(&answer.0) {
+            let patterns = patterns_on_air(header_of(Kind::Headers, &vector.record));
+            let total: u32 = patterns.iter().map(|p| p.count_ones()).sum();
+            let expected = if total > limit {
+                (21, total.into())
+            } else {
+                (0, 0)
+            };
+            assert_eq!(answer, expected);
+            judged.insert((limit, total));
+        }
+    }
+    let above = [43, 44, 255, 256, 65_535, 65_536, 1 << 31, u32::MAX];
+    assert!((0..=42).chain(above).all(|limit| named.contains(&limit)));
+    for limit in 0..=42_u32 {
+        for total in limit.saturating_sub(1)..=(limit + 1).min(42) {
+            assert!(judged.contains(&(limit, total)), "{limit} {total}");
+        }
+        assert!(judged.contains(&(limit, 42)));
+    }
+}
+
+#[test]
+fn limits_above_42_and_totals_above_the_limit_come_with_every_other_refusal() {
+    let stored = stored();
+    for kind in [Kind::Headers, Kind::Frames, Kind::Sheets] {
+        // What is given where nothing but the limit is another one, and what is given as it stands.
+        let mut together = BTreeSet::new();
+        for vector in &stored[kind as usize] {
+            let mut widest = vector.record.clone();
+            widest[..4].copy_from_slice(&42_u32.to_be_bytes());
+            let told = compare(kind, &widest, &vector.reply).unwrap();
+            if !told.differences.is_empty() {
+                let text = told.to_string();
+                let words: Vec<&str> = text.split_whitespace().collect();
+                let at = words.iter().position(|&word| word == "expected:").unwrap();
+                let otherwise = words[at + 1..at + 3].join(" ");
+                together.insert((vector.reply[0], otherwise));
+            }
+        }
+        let numbers = match kind {
+            Kind::Headers => 1..=6,
+            Kind::Frames => 1..=8,
+            _ => 2..=8,
+        };
+        for number in numbers {
+            let other = format!("refused {number}");
+            assert!(together.contains(&(20, other.clone())), "{kind:?} {number}");
+            // 1 to 3 come before 21, so they are what is given.
+            assert_eq!(
+                together.contains(&(21, other)),
+                number > 3,
+                "{kind:?} {number}"
+            );
+        }
+    }
+}
+
+#[test]
+fn sheets_that_are_full_or_nearly_so_are_offered_frames_for_20_and_21() {
+    let stored = stored();
+    let mut seen = BTreeSet::new();
+    for vector in &stored[Kind::Sheets as usize] {
+        let counts = &vector.record[4 + 144..][..40];
+        let total: u64 = counts
+            .chunks_exact(4)
+            .map(|count| u64::from(u32::from_be_bytes(count.try_into().unwrap())))
+            .sum();
+        if vector.record[4..][..144] == [0; 144] && total >= 65_534 {
+            seen.insert((total, limit_of(&vector.record), vector.reply[0]));
+        }
+    }
+    for expected in [
+        (65_534, 43, 20),
+        (65_534, 0, 21),
+        (65_535, 43, 17),
+        (65_535, 0, 17),
+    ] {
+        assert!(seen.contains(&expected), "{expected:?}");
     }
 }
 
@@ -385,7 +502,7 @@ fn patterns_stand_byte_for_byte_as_told() {
     for (word, received) in words {
         (0..15).for_each(|i| air[14 * i + word] = (received >> i & 1) as u8);
     }
-    let mut header = [&[0, 210][..], &air, &[0; 46]].concat();
+    let mut header = [&[0, 0, 0, 5, 0, 210][..], &air, &[0; 46]].concat();
     let patterns = [&[0x00, 0x07, 0x40, 0x01][..], &[0; 24]].concat();
     let accepted = [&[0; 27][..], &[6, 0, 0, 0, 5], &patterns].concat();
     let agrees = |kind: Kind, record: &[u8], reply: &[u8]| {
@@ -397,9 +514,20 @@ fn patterns_stand_byte_for_byte_as_told() {
     let refused = [&[8, 0, 0, 0, 0, 0, 0, 0x1F, 0xFF][..], &[0; 51]].concat();
     header.extend([0; 4]);
     agrees(Kind::Frames, &header, &refused);
-    let offered = [&[0; 176][..], &air, &[0; 4]].concat();
-    let counted = [&refused[..], &[0; 175], &[1]].concat();
+    let mut offered = [&[0, 0, 0, 5][..], &[0; 184], &air, &[0; 4]].concat();
+    let counted = [&refused[..], &[0; 144 + 31], &[1], &[0; 8]].concat();
     agrees(Kind::Sheets, &offered, &counted);
+    // A limit of 4: the five flips are too many. A limit of 43: it is itself refused. They are counted after 1 to 8.
+    for (limit, number, place, at) in [(4, 21, 5, 39), (43, 20, 43, 35)] {
+        let mut refused = vec![0; 60];
+        (refused[0], refused[8]) = (number, place);
+        (header[3], offered[3]) = (limit, limit);
+        agrees(Kind::Headers, &header[..262], &refused);
+        agrees(Kind::Frames, &header, &refused);
+        let mut counted = [&refused[..], &[0; 184]].concat();
+        counted[60 + 144 + at] = 1;
+        agrees(Kind::Sheets, &offered, &counted);
+    }
 }
 
 #[test]
@@ -497,8 +625,8 @@ fn stored_records_replies_and_lines_are_the_same_everywhere() {
     let bytes = inputs(Kind::Stored, DEFAULT_SEED);
     let text = lines(Kind::Stored).join("\n") + "\n";
     let replies = replies(Kind::Stored);
-    assert!(bytes.len() + replies.len() <= 2_500_000);
-    assert_eq!(hash(&bytes), 0xFC46_5096_569F_C081);
-    assert_eq!(hash(text.as_bytes()), 0xB053_A46D_DA25_FA3D);
-    assert_eq!(hash(&replies), 0xCFCE_5B63_BB96_937C);
+    assert!(bytes.len() <= 1_600_000 && replies.len() <= 1_400_000);
+    assert_eq!(hash(&bytes), 0x3149_0F11_E3F5_802F);
+    assert_eq!(hash(text.as_bytes()), 0x76D5_5125_7C72_44A4);
+    assert_eq!(hash(&replies), 0xE69D_BBBF_6FC3_525F);
 }

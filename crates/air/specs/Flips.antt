@@ -33,6 +33,6 @@ flipPatterns x y = tabulate wordCount (flipPattern x y)
 abbrev pub mostFlips : ℕ
 mostFlips = radius * wordCount
 
--- "a burst of up to 42 neighbouring bits": the two differ only in the 42 places from `start` on
-abbrev pub Burst : ℕ → List ℕ → List ℕ → Type 0
-Burst start x y = (n : ℕ) → n < airBits → differsAt x y n ≡ true → (start ≤ n) × (n < start + mostFlips)
+-- "a burst" of up to so many "neighbouring bits": the two differ only in these places from `start` on
+abbrev pub Burst : ℕ → ℕ → List ℕ → List ℕ → Type 0
+Burst size start x y = (n : ℕ) → n < airBits → differsAt x y n ≡ true → (start ≤ n) × (n < start + size)

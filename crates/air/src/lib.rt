@@ -9,10 +9,9 @@ ghost use lib.Bits.{bitOr};
 ghost use lib.ListN.{length, drop};
 ghost use Rattle.base.specs.Lists.{AreBits};
 ghost use Rattle.word.specs.Repairs.{syndromes};
-ghost use Rattle.word.specs.Words.{positions};
+ghost use Rattle.word.specs.Words.{positions, flipCount};
 ghost use Rattle.air.specs.Air.{wordCount, airBits, wordAt, wordsOf, airOf, firstNoBit};
 ghost use Rattle.air.specs.WordRepairs.{repairWordsOf, worstOf};
-ghost use Rattle.word.specs.Words.{flipCount};
 
 // The words of a header.
 pub const WORD_COUNT: usize = 14;
@@ -22,6 +21,9 @@ const POSITIONS: usize = 15;
 
 // The bits of a header on air.
 pub const AIR_BITS: usize = 210;
+
+// The most flips that repair undoes in one header, 42: three in each word.
+pub const MOST_FLIPS: u32 = word::RADIUS * WORD_COUNT as u32;
 
 // The most bytes of a payload: "the field has 10 bits, so 1,023 is the limit"
 pub const LONGEST_PAYLOAD: usize = 1023;

@@ -43,6 +43,11 @@ module _ {A : Type 0} where
   first-none other [] none = refl
   first-none other (k ∷ ks) none = rw (none .0) (first-none other ks (none .1))
 
+  -- an answer of no row of two tables is one of neither
+  pub never-both : (a : A) (ks ls : List (Check A)) → Never a ks → Never a ls → Never a (ks ++ ls)
+  never-both a [] ls n m = m
+  never-both a (k ∷ ks) ls n m = (n .0, never-both a ks ls (n .1) m)
+
   -- an answer of no row is given where no row applies
   pub first-passes : (other a : A) (ks : List (Check A)) → Never a ks → first other ks ≡ a → (other ≡ a) × NoneApplies ks
   first-passes other a [] n e = (e, tt)

@@ -1,15 +1,15 @@
 -- Numbers in a list: their places, and that what a table gives has the number of one of its rows.
 -- Assumes nothing.
 use mathlib.Core.Path.{_≡_, refl, sym, ap, subst, _∙_}
-use mathlib.Core.Bool.{Bool, true, false, true≢false}
+use mathlib.Core.Bool.{Bool, true, false, cond, true≢false}
 use mathlib.Core.Logic.{⊎-elim}
 use mathlib.Core.List.{List, [], _∷_, map}
 use Prim.Native.Nat.{ℕ, zero, suc, _≤_, _<_}
 use native.Mathlib.Nat.{zero-lt-suc}
 use native.Mathlib.Omega.{arith}
-use lib.Dec.{eqb}
+use lib.Dec.{eqb, ltb}
 use lib.ListN.{length, getD}
-use borrow.Author.Tests.{eqb-true, eq-eqb}
+use borrow.Author.Tests.{eqb-true, eq-eqb, ltb-true}
 use Rattle.base.specs.Checks.{Check, first}
 use Rattle.base.specs.Lists.{placeIn}
 use Rattle.base.proofs.Lowest.{lowest-is}
@@ -45,6 +45,19 @@ place-is l n h = sym (eqb-true n (getD l (placeIn l n) 0) (lowest-is (λ k. eqb 
 
 pub place-one : (l : List ℕ) (m n : ℕ) → placeIn l m < length l → placeIn l n ≡ placeIn l m → n ≡ m
 place-one l m n h same = sym (place-is l n (rw same h)) ∙ ap (λ (k : ℕ). getD l k 0) same ∙ place-is l m h
+
+-- each number of a list has a place in another: a test that the checker computes
+abbrev pub allPlaced : List ℕ → List ℕ → Bool
+allPlaced l [] = true
+allPlaced l (n ∷ ns) = cond (ltb (placeIn l n) (length l)) (allPlaced l ns) false
+
+both : (a b : Bool) → cond a b false ≡ true → (a ≡ true) × (b ≡ true)
+both true b h = (refl, h)
+both false b h = absurd (true≢false (sym h))
+
+pub placed : (l ns : List ℕ) (n : ℕ) → allPlaced l ns ≡ true → Among n ns → placeIn l n < length l
+placed l (m ∷ ns) n all front = ltb-true (placeIn l n) (length l) (both (ltb (placeIn l n) (length l)) (allPlaced l ns) all .0)
+placed l (m ∷ ns) n all (behind so) = placed l ns n (both (ltb (placeIn l m) (length l)) (allPlaced l ns) all .1) so
 
 -- the numbers of a table's rows, in its order
 module _ {A : Type 0} (number : A → ℕ) where

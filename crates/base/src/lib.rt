@@ -37,6 +37,12 @@ pub const OTHER_LENGTH: u8 = 7;
 // "CRC13 differs"
 pub const CRC13_DIFFERS: u8 = 8;
 
+// "limit above 42"
+pub const LIMIT_ABOVE_42: u8 = 20;
+
+// "flips above the limit"
+pub const FLIPS_ABOVE_LIMIT: u8 = 21;
+
 // Power page: "payload under 8 bytes"
 pub const NO_PAGE_HEADER: u8 = 9;
 

@@ -32,15 +32,15 @@ use Rattle.sheet.proofs.Offering.{answers-frame, full-refuses, offered-answer}
 use Rattle.sheet.proofs.Refusals.{offered-exactly, refused-keeps}
 use Rattle.air.specs.Air.{wordCount}
 
--- 1 to 6
+-- 20, 1 to 3, 21, 4 to 6
 pub header-refused-exactly : (s : Signal) (why : Refusal) → Exactly (readHeaderOf s) (Refused why) (signalChecks s)
 header-refused-exactly = read-exactly
 
--- 1 to 8
+-- 20, 1 to 3, 21, 4 to 8
 pub frame-refused-exactly : (f : Frame) (why : Refusal) → Exactly (frameOf f) (Refused why) (frameChecks f)
 frame-refused-exactly = refused-exactly
 
--- 17, and then 1 to 8
+-- 17, and then the same
 pub offer-refused-exactly : (sheet : Sheet) (f : Frame) (why : Refusal) → Exactly (offerOf sheet f .read .answer) (Refused why) (offerChecks sheet f)
 offer-refused-exactly = offered-exactly
 

@@ -4,15 +4,17 @@
 -- Assumes nothing.
 use mathlib.Core.Path.{_≡_, sym, _∙_}
 use mathlib.Core.List.{List}
-use Prim.Native.Nat.{ℕ}
+use Prim.Native.Nat.{ℕ, _≤_}
 use lib.ListN.{take, replicate}
 use Rattle.header.specs.declared.Header.{Header}
+use Rattle.header.specs.declared.Rules.{Rules}
 use Rattle.header.specs.declared.Fields.{Fields}
 use Rattle.header.specs.declared.Answer.the-variants.{Accepted}
 use Rattle.base.specs.declared.Written.the-variants.{Done}
 use Rattle.header.specs.Writing.{headerFor, HeaderWritten}
 use Rattle.header.proofs.WrittenAir.{Sent, sent}
 use Rattle.air.specs.Air.{wordCount, airBits}
+use Rattle.air.specs.Flips.{mostFlips}
 use Rattle.frame.specs.Frames.{Frame, frame, frameRead}
 use Rattle.frame.specs.Accepting.{Accepts}
 use Rattle.frame.proofs.Rules.{reader-then-rules, rules-then-reader, one-header}
@@ -33,10 +35,11 @@ module _ (f : Fields) (payload before after : List ℕ) (written : HeaderWritten
   so : Sent f payload after
   so = sent f payload before after written
 
-  -- "the bits those rules fix": the rules accept what stands in the output with the fields, PduLength and the checksums, and no flips
-  pub written-accepted : Accepts (frame (take airBits after) payload) (headerFor f payload) 0 (replicate wordCount 0)
-  written-accepted = rw (so .air) (writing.written-accepted f payload (so .writable))
+  -- "the bits those rules fix": under any limit of at most 42, the rules accept what stands in the output with the fields, PduLength and the
+  -- checksums, and no flips
+  pub written-accepted : (rules : Rules) → rules .limit ≤ mostFlips → Accepts (frame rules (take airBits after) payload) (headerFor f payload) 0 (replicate wordCount 0)
+  written-accepted rules = rw (so .air) (writing.written-accepted f payload rules (so .writable))
 
-  -- "and no others": whatever the rules accept so are these bits
-  pub written-only : (air : List ℕ) → Accepts (frame air payload) (headerFor f payload) 0 (replicate wordCount 0) → air ≡ take airBits after
-  written-only air accepts = writing.only-written f payload air accepts ∙ sym (so .air)
+  -- "and no others": whatever the rules accept so, under any limit, are these bits
+  pub written-only : (rules : Rules) (air : List ℕ) → Accepts (frame rules air payload) (headerFor f payload) 0 (replicate wordCount 0) → air ≡ take airBits after
+  written-only rules air accepts = writing.only-written f payload rules air accepts ∙ sym (so .air)

@@ -1,13 +1,14 @@
 -- DEMAND 3. "The repair table of 1,024 rows equals trying all 32 valid words on each of the 32,768 words. So a written header with at most
 -- three flips in each word, or a burst of up to 42 neighbouring bits, reads back as that very header with the exact number of flips."
--- "Demand 3 now returns the exact pattern of every word."
+-- "Demand 3 now returns the exact pattern of every word." "Demands 2 and 3 then also need a limit of at most 42 and the total of flips to be
+-- at most the limit."
 -- Assumes nothing.
 use mathlib.Core.Path.{_≡_}
 use mathlib.Core.Bool.{cond}
 use mathlib.Core.List.{List, []}
 use Prim.Native.Nat.{ℕ, _+_, _*_, _/_, _%_, _^_, _<_, _≤_}
 use lib.Count.{onesIn}
-use lib.Dec.{leb, eqb}
+use lib.Dec.{leb, eqb, lit≤}
 use lib.ListN.{length, getD, take}
 use Rattle.base.specs.Checks.{refusal}
 use Rattle.base.specs.Lists.{AreBits, howMany}
@@ -17,8 +18,11 @@ use Rattle.word.proofs.Rows.{rows-with-pattern, rows-marked}
 use Rattle.word.proofs.Answer.{table-answers}
 use Rattle.air.specs.Air.{wordCount, airBits}
 use Rattle.air.specs.WordRepairs.{flipTotal}
-use Rattle.air.specs.Flips.{differsAt, flipsBetween, flipsInWord, flipPatterns, Burst}
+use Rattle.air.specs.Flips.{mostFlips, differsAt, flipsBetween, flipsInWord, flipPatterns, Burst}
 use Rattle.header.specs.declared.Fields.{Fields}
+use Rattle.header.specs.declared.Rules.{Rules}
+use Rattle.header.specs.Rules.{usualRules}
+use Rattle.listing.specs.Listing.{listedRules}
 use Rattle.header.specs.declared.Answer.the-variants.{Accepted, Refused}
 use Rattle.base.specs.declared.Written.the-variants.{Done}
 use Rattle.header.specs.Writing.{headerFor, HeaderWritten}
@@ -37,21 +41,34 @@ table-equals-search = table-answers
 pub table-rows : (howMany tableRows (λ r. leb (onesIn positions (rowOf r)) radius) ≡ 576) × (howMany tableRows (λ r. eqb (rowOf r) mark) ≡ 448)
 table-rows = (rows-with-pattern, rows-marked)
 
--- the writer was handed some fields, a payload and an output, and wrote; on the way some of the 210 bits were flipped
+-- the writer was handed some fields, a payload and an output, and wrote; on the way some of the 210 bits were flipped; and the reader was
+-- handed "a limit of at most 42"
 module _ (f : Fields) (payload before after : List ℕ) (written : HeaderWritten f payload before Done after)
-    (air : List ℕ) (long : length air ≡ airBits) (bits : AreBits air) where
+    (air : List ℕ) (long : length air ≡ airBits) (bits : AreBits air) (rules : Rules) (allowed : rules .limit ≤ mostFlips) where
   so : Sent f payload after
   so = sent f payload before after written
 
-  -- "a written header with at most three flips in each word .. reads back as that very header with the exact number of flips"
-  pub three-in-each-word : ((j : ℕ) → j < wordCount → flipsInWord air (take airBits after) j ≤ radius)
-      → frameRead (frame air payload) ≡ record { answer = Accepted (headerFor f payload) (flipsBetween air (take airBits after)); patterns = flipPatterns air (take airBits after) }
-  three-in-each-word = rw (so .air) (restored-frame f payload air bits (so .writable) long)
+  -- "a written header with at most three flips in each word", and "the total of flips to be at most the limit", "reads back as that very
+  -- header with the exact number of flips"
+  pub three-in-each-word : ((j : ℕ) → j < wordCount → flipsInWord air (take airBits after) j ≤ radius) → flipsBetween air (take airBits after) ≤ rules .limit
+      → frameRead (frame rules air payload) ≡ record { answer = Accepted (headerFor f payload) (flipsBetween air (take airBits after)); patterns = flipPatterns air (take airBits after) }
+  three-in-each-word = rw (so .air) (restored-frame f payload air bits (so .writable) long rules allowed)
 
-  -- "or a burst of up to 42 neighbouring bits"
-  pub burst-of-42 : (start : ℕ) → Burst start air (take airBits after)
-      → frameRead (frame air payload) ≡ record { answer = Accepted (headerFor f payload) (flipsBetween air (take airBits after)); patterns = flipPatterns air (take airBits after) }
-  burst-of-42 = rw (so .air) (restored-burst f payload air bits (so .writable) long)
+  -- "or a burst": under a limit l a burst of up to l neighbouring bits is always undone. Its flips then keep within the limit.
+  pub burst-undone : (start : ℕ) → Burst (rules .limit) start air (take airBits after)
+      → frameRead (frame rules air payload) ≡ record { answer = Accepted (headerFor f payload) (flipsBetween air (take airBits after)); patterns = flipPatterns air (take airBits after) }
+  burst-undone = rw (so .air) (restored-burst f payload air bits (so .writable) long rules allowed)
+
+-- "a burst of up to 42 neighbouring bits" needs the limit 42, which the listing names; where no limit is named, 28 are undone
+module _ (f : Fields) (payload before after : List ℕ) (written : HeaderWritten f payload before Done after)
+    (air : List ℕ) (long : length air ≡ airBits) (bits : AreBits air) where
+  pub burst-of-42 : (start : ℕ) → Burst 42 start air (take airBits after)
+      → frameRead (frame listedRules air payload) ≡ record { answer = Accepted (headerFor f payload) (flipsBetween air (take airBits after)); patterns = flipPatterns air (take airBits after) }
+  burst-of-42 = burst-undone f payload before after written air long bits listedRules (lit≤ tt)
+
+  pub burst-of-28 : (start : ℕ) → Burst 28 start air (take airBits after)
+      → frameRead (frame usualRules air payload) ≡ record { answer = Accepted (headerFor f payload) (flipsBetween air (take airBits after)); patterns = flipPatterns air (take airBits after) }
+  burst-of-28 = burst-undone f payload before after written air long bits usualRules (lit≤ tt)
 
 -- "the exact pattern of every word": bit i of pattern j says whether air bit 14 i + j was flipped, and the ones are all flips
 pub pattern-bits : (x y : List ℕ) (i j : ℕ) → i < positions → j < wordCount → getD (flipPatterns x y) j 0 / 2 ^ i % 2 ≡ cond (differsAt x y (wordCount * i + j)) 1 0
@@ -61,5 +78,5 @@ pub pattern-ones : (x y : List ℕ) → flipTotal (flipPatterns x y) ≡ flipsBe
 pattern-ones = flipPatterns-total
 
 -- 42 is the limit: a header of zeros whose first 43 bits are flipped is refused
-pub not-43 : (flipsBetween (burstZeros 43) sentZeros ≡ 43) × (flipsInWord (burstZeros 43) sentZeros 0 ≡ 4) × (frameOf (frame (burstZeros 43) []) ≡ Refused (refusal 3 0))
+pub not-43 : (flipsBetween (burstZeros 43) sentZeros ≡ 43) × (flipsInWord (burstZeros 43) sentZeros 0 ≡ 4) × (frameOf (frame listedRules (burstZeros 43) []) ≡ Refused (refusal 3 0))
 not-43 = burst-of-43

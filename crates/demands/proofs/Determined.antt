@@ -13,10 +13,12 @@ use Rattle.crc.specs.Crc.{crc13Of}
 use Rattle.air.specs.Air.{firstNoBit}
 use Rattle.header.specs.declared.Fields.{Fields}
 use Rattle.header.specs.declared.Read.{Read}
+use Rattle.header.specs.declared.Rules.{Rules}
 use Rattle.header.specs.declared.Answer.{Answer}
 use Rattle.air.specs.WordRepairs.{worstOf}
 use Rattle.base.specs.declared.Written.{Written}
 use Rattle.header.specs.Fields.{satelliteOf, radioOf}
+use Rattle.header.specs.Rules.{usualRules}
 use Rattle.header.specs.Reading.{signal}
 use Rattle.header.specs.Patterns.{beside, headerRead}
 use Rattle.header.specs.Writing.{afterWrite, HeaderWritten}
@@ -66,8 +68,11 @@ satellite-one «src_id» r s = one
 pub radio-one : («src_id» r s : ℕ) → r ≡ radioOf «src_id» → s ≡ radioOf «src_id» → r ≡ s
 radio-one «src_id» r s = one
 
-pub read-header-one : (air : List ℕ) (r s : Read) → r ≡ headerRead (signal air) → s ≡ headerRead (signal air) → r ≡ s
-read-header-one air r s = one
+pub usual-one : (r s : Rules) → r ≡ usualRules → s ≡ usualRules → r ≡ s
+usual-one r s = one
+
+pub read-header-one : (rules : Rules) (air : List ℕ) (r s : Read) → r ≡ headerRead (signal rules air) → s ≡ headerRead (signal rules air) → r ≡ s
+read-header-one rules air r s = one
 
 -- the answer, and every byte of the output afterwards
 pub write-header-one : (fields : Fields) (payload out : List ℕ) (r s : Written) (out-r out-s : List ℕ)
@@ -76,8 +81,8 @@ write-header-one fields payload out r s out-r out-s a b =
     let answers : r ≡ s = one (a .answered) (b .answered) in
     (answers, a .bytes ∙ ap (λ (w : Written). afterWrite w fields payload out) answers ∙ sym (b .bytes))
 
-pub read-frame-one : (air payload : List ℕ) (r s : Read) → r ≡ frameRead (frame air payload) → s ≡ frameRead (frame air payload) → r ≡ s
-read-frame-one air payload r s = one
+pub read-frame-one : (rules : Rules) (air payload : List ℕ) (r s : Read) → r ≡ frameRead (frame rules air payload) → s ≡ frameRead (frame rules air payload) → r ≡ s
+read-frame-one rules air payload r s = one
 
 pub read-page-one : (payload : List ℕ) (r s : PageAnswer) → r ≡ pageOf payload → s ≡ pageOf payload → r ≡ s
 read-page-one payload r s = one
@@ -96,8 +101,8 @@ pub new-sheet-one : (r s : Sheet) → r ≡ newSheet → s ≡ newSheet → r �
 new-sheet-one r s = one
 
 -- the answer, and the whole sheet afterwards
-pub offer-one : (sheet : Sheet) (air payload : List ℕ) (r s : Offered) → r ≡ offerOf sheet (frame air payload) → s ≡ offerOf sheet (frame air payload) → r ≡ s
-offer-one sheet air payload r s = one
+pub offer-one : (sheet : Sheet) (rules : Rules) (air payload : List ℕ) (r s : Offered) → r ≡ offerOf sheet (frame rules air payload) → s ≡ offerOf sheet (frame rules air payload) → r ≡ s
+offer-one sheet rules air payload r s = one
 
 pub accepted-one : (sheet : Sheet) (r s : ℕ) → r ≡ acceptedOf sheet → s ≡ acceptedOf sheet → r ≡ s
 accepted-one sheet r s = one

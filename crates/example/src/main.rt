@@ -12,7 +12,7 @@ fn main() {
     let mut bytes = io::buffer();
     let bits = io::read_full(STDIN_FILENO, &mut air);
     let len = io::read_full(STDIN_FILENO, &mut bytes);
-    let read = frame::read_frame(&air[..bits], &bytes[..len]);
+    let read = frame::read_frame(header::usual(), &air[..bits], &bytes[..len]);
     let answer = read.answer;
     match answer {
         Answer::Accepted { header, flips } => {

@@ -1,5 +1,5 @@
 -- Damage undone: "a written header with at most three flips in each word, or a burst of up to 42 neighbouring bits, reads back as that very
--- header with the exact number of flips", and with the exact pattern of every word.
+-- header with the exact number of flips", and with the exact pattern of every word, under a limit of at most 42 that the flips keep within.
 -- Assumes nothing.
 use mathlib.Core.Path.{_≡_, refl, sym, ap, ap₂, _∙_}
 use mathlib.Core.List.{List}
@@ -11,12 +11,13 @@ use Rattle.word.specs.Words.{distance}
 use Rattle.word.specs.Repairs.{radius}
 use Rattle.air.specs.Air.{wordCount, airBits, wordsOf}
 use Rattle.air.specs.Closeness.{AllClose, differences, distances}
-use Rattle.air.specs.Flips.{flipsBetween, flipsInWord, flipPatterns, Burst}
+use Rattle.air.specs.Flips.{mostFlips, flipsBetween, flipsInWord, flipPatterns, Burst}
 use Rattle.air.proofs.Places.{words-at, words-lt}
 use Rattle.air.proofs.Restored.{restored-patterns}
 use Rattle.air.proofs.Flipped.{word-flips, all-flips, all-patterns}
-use Rattle.air.proofs.Bursts.{burst-few}
+use Rattle.air.proofs.Bursts.{burst-few, burst-total}
 use Rattle.header.specs.declared.Fields.{Fields}
+use Rattle.header.specs.declared.Rules.{Rules}
 use Rattle.header.specs.declared.Answer.the-variants.{Accepted}
 use Rattle.header.specs.Fields.{codedOf}
 use Rattle.header.specs.Writing.{bitsFor, headerFor, airFor}
@@ -56,17 +57,18 @@ module _ (f : Fields) (payload air : List ℕ) (bits : AreBits air) where
   damaged-patterns : differences (wordsOf air) words ≡ flipPatterns air sent
   damaged-patterns = ap (differences (wordsOf air)) (sym (written-words f payload)) ∙ all-patterns air sent bits (written-are-bits f payload)
 
-  module _ (ok : Writable f payload) (long : length air ≡ airBits) where
+  module _ (ok : Writable f payload) (long : length air ≡ airBits) (rules : Rules) (allowed : rules .limit ≤ mostFlips) where
     -- at most three flips in each word
-    pub restored-frame : ((j : ℕ) → j < wordCount → flipsInWord air (airFor f payload) j ≤ radius)
-        → frameRead (frame air payload) ≡ record { answer = Accepted (headerFor f payload) (flipsBetween air (airFor f payload)); patterns = flipPatterns air (airFor f payload) }
+    pub restored-frame : ((j : ℕ) → j < wordCount → flipsInWord air (airFor f payload) j ≤ radius) → flipsBetween air (airFor f payload) ≤ rules .limit
+        → frameRead (frame rules air payload) ≡ record { answer = Accepted (headerFor f payload) (flipsBetween air (airFor f payload)); patterns = flipPatterns air (airFor f payload) }
     unfolding frameRead
-    restored-frame few =
+    restored-frame few within =
         ap₂ beside (restored-patterns (wordsOf air) (words-lt air bits) words (damaged-close few) ∙ damaged-patterns)
-        (with-payload f (frame air payload) (flipsBetween air sent)
-        (rw damaged-flips at (header-restored f payload ok (signal air) long bits (damaged-close few))))
+        (with-payload f (frame rules air payload) (flipsBetween air sent)
+        (rw damaged-flips at (header-restored f payload ok (signal rules air) long bits (damaged-close few) allowed (rw damaged-flips within))))
 
-    -- a burst: all flips among 42 neighbouring bits
-    pub restored-burst : (start : ℕ) → Burst start air (airFor f payload)
-        → frameRead (frame air payload) ≡ record { answer = Accepted (headerFor f payload) (flipsBetween air (airFor f payload)); patterns = flipPatterns air (airFor f payload) }
-    restored-burst start burst = restored-frame (burst-few start air (airFor f payload) burst)
+    -- a burst: all flips among so many neighbouring bits as the limit allows
+    pub restored-burst : (start : ℕ) → Burst (rules .limit) start air (airFor f payload)
+        → frameRead (frame rules air payload) ≡ record { answer = Accepted (headerFor f payload) (flipsBetween air (airFor f payload)); patterns = flipPatterns air (airFor f payload) }
+    restored-burst start burst =
+        restored-frame (burst-few (rules .limit) start air (airFor f payload) burst allowed) (burst-total (rules .limit) start air (airFor f payload) burst)

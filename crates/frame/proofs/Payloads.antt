@@ -8,18 +8,19 @@ use borrow.Author.Needs.{needs}
 use borrow.Author.Tests.{eq-eqb, ne-eqb}
 use Rattle.base.specs.declared.Refusal.{Refusal}
 use Rattle.base.specs.Checks.{first, refusal}
-use Rattle.base.proofs.First.{NoneApplies, none-split, first-passes}
+use Rattle.base.proofs.First.{never-both, NoneApplies, none-split, first-passes}
 use Rattle.base.proofs.Tests.{not-differs}
 use Rattle.crc.specs.Crc.{crc13Of}
 use Rattle.header.specs.declared.Header.{Header}
 use Rattle.header.specs.declared.Read.{Read}
+use Rattle.header.specs.declared.Rules.{Rules}
 use Rattle.header.specs.declared.Answer.{Answer}
 use Rattle.header.specs.declared.Answer.the-variants.{Accepted, Refused}
 use Rattle.air.specs.Air.{wordCount}
 use Rattle.header.specs.Reading.{signal, signalChecks, repairedAnswer, readHeaderOf}
 use Rattle.header.specs.Patterns.{beside, patternsOf, headerRead}
 use Rattle.header.proofs.Beside.{beside-refused, read-answer, read-patterns}
-use Rattle.header.proofs.GoesOn.{no-row, ReadAs, read-as, header-refused, header-leaves}
+use Rattle.header.proofs.GoesOn.{no-row, never-accepted, ReadAs, read-as, header-refused, header-leaves}
 use Rattle.frame.specs.Frames.{Frame, frame, repairedHeader, crc13Differs, payloadChecks, frameChecks, frameOf, frameRead}
 
 module _ (h : Header) (flips : ℕ) (payload : List ℕ) where
@@ -76,23 +77,24 @@ module _ (f : Frame) where
     pub frame-read-as : frameOf f ≡ Accepted h k → FrameReadAs f h k
     unfolding frameOf
     frame-read-as e =
-        let passed = first-passes (repairedAnswer (f .head)) (Accepted h k) (frameChecks f) (search (needs, no-row)) e in
+        let never = never-both (Accepted h k) (signalChecks (f .head)) (payloadChecks (repairedHeader f) (f .payload)) (never-accepted (f .head) h k) (search (needs, no-row)) in
+        let passed = first-passes (repairedAnswer (f .head)) (Accepted h k) (frameChecks f) never e in
         let parts = none-split (signalChecks (f .head)) (payloadChecks (repairedHeader f) (f .payload)) (passed .1) in
         let same : repairedHeader f ≡ h = cc (passed .0) in
         record { header = record { is = passed .0; passed = parts .0 }; payload = rw same at (payload-passed (repairedHeader f) (f .payload) (parts .1)) }
 
 -- THE SAME, as the reader finds it: r is what was read of the header, and judged what is judged of the payload
-module _ (air payload : List ℕ) (read : Read) (is : read ≡ headerRead (signal air)) where
-  pub frame-refused : (why : Refusal) → read .answer ≡ Refused why → _≡_ {A = Read} (record { answer = Refused why; patterns = replicate wordCount 0 }) (frameRead (frame air payload))
+module _ (rules : Rules) (air payload : List ℕ) (read : Read) (is : read ≡ headerRead (signal rules air)) where
+  pub frame-refused : (why : Refusal) → read .answer ≡ Refused why → _≡_ {A = Read} (record { answer = Refused why; patterns = replicate wordCount 0 }) (frameRead (frame rules air payload))
   unfolding frameRead
   frame-refused why e =
-      beside-refused (patternsOf (signal air)) (frameOf (frame air payload)) why
-      (refused-head (frame air payload) why (sym (read-answer (signal air) read is) ∙ e))
+      beside-refused (patternsOf (signal rules air)) (frameOf (frame rules air payload)) why
+      (refused-head (frame rules air payload) why (sym (read-answer (signal rules air) read is) ∙ e))
 
   pub frame-left : (h : Header) (k : ℕ) (judged : Answer) (r : Read) → read .answer ≡ Accepted h k → judged ≡ first (Accepted h k) (payloadChecks h payload)
-      → r ≡ beside (read .patterns) judged → r ≡ frameRead (frame air payload)
+      → r ≡ beside (read .patterns) judged → r ≡ frameRead (frame rules air payload)
   unfolding frameRead
   frame-left h k judged r e so made =
       made
-      ∙ ap₂ beside (read-patterns (signal air) read is h k e)
-      (so ∙ sym (left-to-payload (frame air payload) h k (read-as (signal air) h k (sym (read-answer (signal air) read is) ∙ e))))
+      ∙ ap₂ beside (read-patterns (signal rules air) read is h k e)
+      (so ∙ sym (left-to-payload (frame rules air payload) h k (read-as (signal rules air) h k (sym (read-answer (signal rules air) read is) ∙ e))))

@@ -32,12 +32,12 @@ module _ (f : Frame) (h : Header) (k : ℕ) where
   -- what the rules accept, the reader accepts
   rules-then-answer : (patterns : List ℕ) → Accepts f h k patterns → frameOf f ≡ Accepted h k
   rules-then-answer patterns so =
-      let passed : HeaderPassed (bitsOfWords (so .words)) =
-      record { same-crc5 = rw (← so .made) (so .same-crc5); known-source = rw (← so .made) (so .known-source); known-coding = rw (← so .made) (so .known-coding) } in
       let flips : k ≡ distances (arrived (f .head)) (so .words) = so .counted ∙ ap flipTotal (so .patterned) ∙ sym (distances-are (arrived (f .head)) (so .words)) in
+      let passed : HeaderPassed (f .head .rules) (distances (arrived (f .head)) (so .words)) (bitsOfWords (so .words)) =
+      record { within = rw (← flips) (so .within-limit); same-crc5 = rw (← so .made) (so .same-crc5); known-source = rw (← so .made) (so .known-source); known-coding = rw (← so .made) (so .known-coding) } in
       frame-reads f h k
       (record {
-        header = rw (← so .made, ← flips) at (restored (f .head) (so .words) (so .long) (so .bits) (so .close) passed);
+        header = rw (← so .made, ← flips) at (restored (f .head) (so .words) (so .long) (so .bits) (so .close) (so .known-limit) passed);
         payload = record { same-length = so .same-length; same-crc13 = so .same-crc13 };
       })
 
@@ -53,9 +53,9 @@ module _ (f : Frame) (h : Header) (k : ℕ) where
       let n : ℕ = repairedBits (f .head) in
       let made : headerOf n ≡ h = cc (so .header .is) in
       let flips : flipsIn (arrived (f .head)) ≡ k = cc (so .header .is) in
-      let parts = none-split (airChecks (f .head)) (headerChecks n) (so .header .passed) in
+      let parts = none-split (airChecks (f .head)) (headerChecks (f .head .rules) (flipsIn (arrived (f .head))) n) (so .header .passed) in
       let air = air-passed (f .head) (parts .0) in
-      let header = header-passed n (parts .1) in
+      let header = header-passed (f .head .rules) (flipsIn (arrived (f .head))) n (parts .1) in
       let small = words-lt (f .head .air) (air .bits) in
       let close : AllClose (arrived (f .head)) (repairedOf (arrived (f .head))) = repaired-all-close (arrived (f .head)) small (air .repairable) in
       record {
@@ -71,6 +71,8 @@ module _ (f : Frame) (h : Header) (k : ℕ) where
         same-crc13 = so .payload .same-crc13;
         patterned = restored-patterns (arrived (f .head)) small (repairedOf (arrived (f .head))) close;
         counted = sym flips ∙ flips-are-ones (arrived (f .head));
+        known-limit = air .allowed;
+        within-limit = rw flips at (header .within);
       }
 
   pub reader-then-rules : (patterns : List ℕ) → frameRead f ≡ record { answer = Accepted h k; patterns = patterns } → Accepts f h k patterns

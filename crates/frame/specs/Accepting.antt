@@ -11,6 +11,7 @@ use Rattle.crc.specs.Crc5.{crc5Of}
 use Rattle.air.specs.Air.{airBits, wordsOf}
 use Rattle.air.specs.WordRepairs.{flipTotal}
 use Rattle.air.specs.Closeness.{AllClose, differences}
+use Rattle.air.specs.Flips.{mostFlips}
 use Rattle.header.specs.declared.Header.{Header}
 use Rattle.header.specs.Fields.{lastSource, lastCoding, headerOf, bitsOfWords}
 use Rattle.frame.specs.Frames.{Frame}
@@ -33,3 +34,6 @@ pub record Accepts (f : Frame) (header : Header) (flips : ℕ) (patterns : List 
   -- the patterns are the places in which the words differ from those that they became, "the total being their ones"
   pub patterned : patterns ≡ differences (wordsOf (f .head .air)) words
   pub counted : flips ≡ flipTotal patterns
+  -- "a limit of at most 42 and the total of flips to be at most the limit"
+  pub known-limit : f .head .rules .limit ≤ mostFlips
+  pub within-limit : flips ≤ f .head .rules .limit

@@ -1,4 +1,4 @@
--- A frame, read: refused with 1 to 8, or the repaired header and the number of flips, with the patterns beside it.
+-- A frame, read: refused with 20, 1 to 3, 21, 4 to 8, or the repaired header and the number of flips, with the patterns beside it.
 -- Assumes nothing.
 use mathlib.Core.Bool.{not}
 use mathlib.Core.List.{List, [], _∷_, _++_}
@@ -8,6 +8,7 @@ use lib.ListN.{length}
 use Rattle.base.specs.Checks.{Check, check, first, refusal}
 use Rattle.crc.specs.Crc.{crc13Of}
 use Rattle.header.specs.declared.Header.{Header}
+use Rattle.header.specs.declared.Rules.{Rules}
 use Rattle.header.specs.declared.Read.{Read}
 use Rattle.header.specs.declared.Answer.{Answer}
 use Rattle.header.specs.declared.Answer.the-variants.{Refused}
@@ -20,8 +21,8 @@ pub record Frame : Type 0 where
   pub head : Signal
   pub payload : List ℕ
 
-abbrev pub frame : List ℕ → List ℕ → Frame
-frame air payload = record { head = signal air; payload = payload }
+abbrev pub frame : Rules → List ℕ → List ℕ → Frame
+frame rules air payload = record { head = signal rules air; payload = payload }
 
 -- the header that its words are repaired to
 abbrev pub repairedHeader : Frame → Header
@@ -39,13 +40,13 @@ crc13Differs h payload = check (not (eqb (crc13Of payload) (h .«crc13»))) (Ref
 abbrev pub payloadChecks : Header → List ℕ → List (Check Answer)
 payloadChecks h payload = otherLength h payload ∷ crc13Differs h payload ∷ []
 
--- all rows, 1 to 8
+-- all rows
 abbrev pub frameChecks : Frame → List (Check Answer)
 frameChecks f = signalChecks (f .head) ++ payloadChecks (repairedHeader f) (f .payload)
 
 -- their numbers: the whole order at a glance
 abbrev pub frameNumbers : List ℕ
-frameNumbers = 1 ∷ 2 ∷ 3 ∷ 4 ∷ 5 ∷ 6 ∷ 7 ∷ 8 ∷ []
+frameNumbers = 20 ∷ 1 ∷ 2 ∷ 3 ∷ 21 ∷ 4 ∷ 5 ∷ 6 ∷ 7 ∷ 8 ∷ []
 
 -- "Frame, in this order; the first that applies is given"
 unfoldable pub frameOf : Frame → Answer

@@ -6,6 +6,7 @@ use base::Refusal;
 use header::Answer;
 use header::Header;
 use header::Read;
+use header::Rules;
 use word::table::TABLE_ROWS;
 ghost use mathlib.Core.Path.{_≡_};
 ghost use Rattle.base.specs.Checks.{first};
@@ -34,11 +35,11 @@ fn judge_payload(header: Header, flips: u32, payload: &[u8]) -> Answer
 }
 
 // The reader, by a lent copy of the syndrome table: what a caller with many frames copies once.
-pub fn read_frame_in(table: &[u16; TABLE_ROWS], air: &[u8], payload: &[u8]) -> Read
+pub fn read_frame_in(table: &[u16; TABLE_ROWS], rules: Rules, air: &[u8], payload: &[u8]) -> Read
     requires { ⌜ now table ≡ syndromes ⌝ }
-    ensures { λ r. ⌜ r ≡ frameRead (frame (now (air .entry)) (now (payload .entry))) ⌝ }
+    ensures { λ r. ⌜ r ≡ frameRead (frame rules (now (air .entry)) (now (payload .entry))) ⌝ }
 {
-    let read = header::read_header_in(table, air);
+    let read = header::read_header_in(table, rules, air);
     let answer = read.answer;
     match answer {
         Answer::Refused(why) => Read {
@@ -52,11 +53,11 @@ pub fn read_frame_in(table: &[u16; TABLE_ROWS], air: &[u8], payload: &[u8]) -> R
     }
 }
 
-// The reader of any two slices: accepted with the repaired header, the number of flips and the patterns, or the first refusal of 1 to 8.
-// A checksum that differs is a refusal, so it is never told beside an accepted frame.
-pub fn read_frame(air: &[u8], payload: &[u8]) -> Read
-    ensures { λ r. ⌜ r ≡ frameRead (frame (now (air .entry)) (now (payload .entry))) ⌝ }
+// The reader of any two slices: accepted with the repaired header, the number of flips and the patterns, or the first refusal
+// of 20, 1, 2, 3, 21, 4, 5, 6, 7, 8. A checksum that differs is a refusal, so it is never told beside an accepted frame.
+pub fn read_frame(rules: Rules, air: &[u8], payload: &[u8]) -> Read
+    ensures { λ r. ⌜ r ≡ frameRead (frame rules (now (air .entry)) (now (payload .entry))) ⌝ }
 {
     let table = word::table::whole();
-    read_frame_in(&table, air, payload)
+    read_frame_in(&table, rules, air, payload)
 }

@@ -7,13 +7,13 @@ use native.Mathlib.Omega.{arith}
 use borrow.Author.Needs.{needs}
 use Rattle.base.specs.declared.Refusal.{Refusal}
 use Rattle.base.specs.Checks.{Check, first}
-use Rattle.base.proofs.First.{NoneApplies, first-append, first-stays, first-passes, first-none}
+use Rattle.base.proofs.First.{Never, never-both, NoneApplies, first-append, first-stays, first-passes, first-none}
 use Rattle.air.specs.WordRepairs.{flipsIn}
 use Rattle.header.specs.declared.Header.{Header}
 use Rattle.header.specs.declared.Answer.{Answer}
 use Rattle.header.specs.declared.Answer.the-variants.{Accepted, Refused}
 use Rattle.header.specs.Fields.{headerOf}
-use Rattle.header.specs.Reading.{Signal, arrived, repairedBits, signalChecks, repairedAnswer, readHeaderOf}
+use Rattle.header.specs.Reading.{Signal, arrived, repairedBits, airChecks, headerChecks, signalChecks, repairedAnswer, readHeaderOf}
 
 pub apart : (h : Header) (k : ℕ) (why : Refusal) → Accepted h k ≡ Refused why → ⊥
 apart h k why e = let z : _≡_ {A = ℕ} 0 1 = cc in omega arith
@@ -30,10 +30,14 @@ module _ (s : Signal) where
     pub is : repairedAnswer s ≡ Accepted h k
     pub passed : NoneApplies (signalChecks s)
 
+  -- the rows refuse
+  pub never-accepted : (h : Header) (k : ℕ) → Never (Accepted h k) (signalChecks s)
+  never-accepted h k = never-both (Accepted h k) (airChecks s) (headerChecks (s .rules) (flipsIn (arrived s)) (repairedBits s)) (search (needs, no-row)) (search (needs, no-row))
+
   pub read-as : (h : Header) (k : ℕ) → readHeaderOf s ≡ Accepted h k → ReadAs h k
   unfolding readHeaderOf
   read-as h k e =
-      let passed = first-passes (repairedAnswer s) (Accepted h k) (signalChecks s) (search (needs, no-row)) e in
+      let passed = first-passes (repairedAnswer s) (Accepted h k) (signalChecks s) (never-accepted h k) e in
       record { is = passed .0; passed = passed .1 }
 
   -- a header that is refused stays refused

@@ -12,15 +12,18 @@ use Rattle.base.proofs.Tests.{differs-not, not-differs}
 use Rattle.crc.specs.Crc5.{crc5Of}
 use Rattle.air.specs.Air.{wordCount, airBits, payloadLimit, firstNoBit}
 use Rattle.air.specs.WordRepairs.{firstBeyond}
+use Rattle.air.specs.Flips.{mostFlips}
 use Rattle.air.proofs.Bits.{are-bits, no-bit-none, no-bit-le}
 use Rattle.air.proofs.Answers.{beyond-le}
 use Rattle.header.specs.declared.Fields.{Fields}
+use Rattle.header.specs.declared.Rules.{Rules}
 use Rattle.header.specs.Fields.{fieldCount, valuesOf, lastSource, lastCoding, headerOf}
 use Rattle.header.specs.Reading.{Signal, arrived, airChecks, headerChecks}
 use Rattle.header.specs.Writing.{firstOver, writeChecks}
 
--- 1 to 3
+-- 20, 1 to 3
 pub record AirPassed (s : Signal) : Type 0 where
+  pub allowed : s .rules .limit ≤ mostFlips
   pub long : length (s .air) ≡ airBits
   pub bits : AreBits (s .air)
   pub repairable : firstBeyond (arrived s) ≡ wordCount
@@ -28,42 +31,51 @@ pub record AirPassed (s : Signal) : Type 0 where
 module _ (s : Signal) where
   pub air-passed : NoneApplies (airChecks s) → AirPassed s
   air-passed none =
-      let long : length (s .air) ≡ airBits = not-differs (length (s .air)) airBits (none .0) in
+      let long : length (s .air) ≡ airBits = not-differs (length (s .air)) airBits (none .1 .0) in
       record {
+        allowed = ltb-false mostFlips (s .rules .limit) (none .0);
         long = long;
-        bits = are-bits (s .air) (omega (arith, long, no-bit-le (s .air), ltb-false (firstNoBit (s .air)) airBits (none .1 .0)));
-        repairable = omega (arith, beyond-le (arrived s), ltb-false (firstBeyond (arrived s)) wordCount (none .1 .1 .0));
+        bits = are-bits (s .air) (omega (arith, long, no-bit-le (s .air), ltb-false (firstNoBit (s .air)) airBits (none .1 .1 .0)));
+        repairable = omega (arith, beyond-le (arrived s), ltb-false (firstBeyond (arrived s)) wordCount (none .1 .1 .1 .0));
       }
 
   pub air-passes : AirPassed s → NoneApplies (airChecks s)
   air-passes so = (
-    differs-not (length (s .air)) airBits (so .long),
+    le-ltb mostFlips (s .rules .limit) (so .allowed),
     (
-      le-ltb (firstNoBit (s .air)) airBits (omega (arith, so .long, no-bit-none (s .air) (so .bits))),
-      (le-ltb (firstBeyond (arrived s)) wordCount (omega (arith, so .repairable)), tt),
+      differs-not (length (s .air)) airBits (so .long),
+      (
+        le-ltb (firstNoBit (s .air)) airBits (omega (arith, so .long, no-bit-none (s .air) (so .bits))),
+        (le-ltb (firstBeyond (arrived s)) wordCount (omega (arith, so .repairable)), tt),
+      ),
     ),
   )
 
--- 4 to 6
-pub record HeaderPassed (n : ℕ) : Type 0 where
+-- 21, 4 to 6
+pub record HeaderPassed (rules : Rules) (flips n : ℕ) : Type 0 where
+  pub within : flips ≤ rules .limit
   pub same-crc5 : crc5Of n ≡ headerOf n .«crc5»
   pub known-source : headerOf n .«fields» .«src_id» ≤ lastSource
   pub known-coding : headerOf n .«fields» .«ai_type_src» ≤ lastCoding
 
-module _ (n : ℕ) where
-  pub header-passed : NoneApplies (headerChecks n) → HeaderPassed n
+module _ (rules : Rules) (flips n : ℕ) where
+  pub header-passed : NoneApplies (headerChecks rules flips n) → HeaderPassed rules flips n
   header-passed none = record {
-    same-crc5 = not-differs (crc5Of n) (headerOf n .«crc5») (none .0);
-    known-source = ltb-false lastSource (headerOf n .«fields» .«src_id») (none .1 .0);
-    known-coding = ltb-false lastCoding (headerOf n .«fields» .«ai_type_src») (none .1 .1 .0);
+    within = ltb-false (rules .limit) flips (none .0);
+    same-crc5 = not-differs (crc5Of n) (headerOf n .«crc5») (none .1 .0);
+    known-source = ltb-false lastSource (headerOf n .«fields» .«src_id») (none .1 .1 .0);
+    known-coding = ltb-false lastCoding (headerOf n .«fields» .«ai_type_src») (none .1 .1 .1 .0);
   }
 
-  pub header-passes : HeaderPassed n → NoneApplies (headerChecks n)
+  pub header-passes : HeaderPassed rules flips n → NoneApplies (headerChecks rules flips n)
   header-passes so = (
-    differs-not (crc5Of n) (headerOf n .«crc5») (so .same-crc5),
+    le-ltb (rules .limit) flips (so .within),
     (
-      le-ltb lastSource (headerOf n .«fields» .«src_id») (so .known-source),
-      (le-ltb lastCoding (headerOf n .«fields» .«ai_type_src») (so .known-coding), tt),
+      differs-not (crc5Of n) (headerOf n .«crc5») (so .same-crc5),
+      (
+        le-ltb lastSource (headerOf n .«fields» .«src_id») (so .known-source),
+        (le-ltb lastCoding (headerOf n .«fields» .«ai_type_src») (so .known-coding), tt),
+      ),
     ),
   )
 

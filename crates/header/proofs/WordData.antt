@@ -12,15 +12,14 @@ use lib.Pow.{pow-add, pow-mono}
 use lib.Seq.{drop-cons, take-all, getD-drop, length-take-le}
 use mir.Syntax.{w64}
 use mir.Val.{Fits}
-use Rattle.base.specs.Checks.{first}
 use Rattle.base.specs.Parts.{joinedFrom, joined, InWidths, none, part}
 use Rattle.base.proofs.Joined.{join-above, join-lt, join-append}
 use Rattle.word.specs.Words.{wordLimit, dataOf}
 use Rattle.air.specs.Air.{wordCount}
 use Rattle.header.specs.declared.Answer.{Answer}
-use Rattle.header.specs.declared.Answer.the-variants.{Accepted}
-use Rattle.header.specs.Fields.{dataWidths, headerOf, bitsOfWords}
-use Rattle.header.specs.Reading.{headerChecks}
+use Rattle.header.specs.Fields.{dataWidths, bitsOfWords}
+use Rattle.header.specs.declared.Rules.{Rules}
+use Rattle.header.specs.Reading.{judgedOf}
 use Rattle.crc.specs.Halves.{headerBits, hiWidth, loWidth}
 
 -- all are words
@@ -125,6 +124,5 @@ module _ (words : List ℕ) (long : length words ≡ wordCount) (ok : AreWords w
       ∙ ap (joined dataWidths) (sym (map-append dataOf (take 6 words) (take 8 (drop 6 words))) ∙ ap (map dataOf) whole))
 
   -- so what is judged of the two numbers is judged of the words
-  pub judged-halves : (flips : ℕ) (r : Answer) → r ≡ first (Accepted (headerOf (headerBits hi lo)) flips) (headerChecks (headerBits hi lo))
-      → r ≡ first (Accepted (headerOf (bitsOfWords words)) flips) (headerChecks (bitsOfWords words))
-  judged-halves flips r e = rw halves at e
+  pub judged-halves : (rules : Rules) (flips : ℕ) (r : Answer) → r ≡ judgedOf rules flips (headerBits hi lo) → r ≡ judgedOf rules flips (bitsOfWords words)
+  judged-halves rules flips r e = rw halves at e

@@ -1,4 +1,4 @@
--- A header alone, read: refused with 1 to 6, or the repaired header and the number of flips.
+-- A header alone, read: refused with 20, 1 to 3, 21, 4 to 6, or the repaired header and the number of flips.
 -- Assumes nothing.
 use mathlib.Core.Bool.{not}
 use mathlib.Core.List.{List, [], _∷_, _++_}
@@ -9,16 +9,19 @@ use Rattle.base.specs.Checks.{Check, check, first, refusal}
 use Rattle.crc.specs.Crc5.{crc5Of}
 use Rattle.air.specs.Air.{wordCount, airBits, wordsOf, firstNoBit}
 use Rattle.air.specs.WordRepairs.{firstBeyond, repairedOf, flipsIn}
+use Rattle.air.specs.Flips.{mostFlips}
+use Rattle.header.specs.declared.Rules.{Rules}
 use Rattle.header.specs.declared.Answer.{Answer}
 use Rattle.header.specs.declared.Answer.the-variants.{Accepted, Refused}
 use Rattle.header.specs.Fields.{lastSource, lastCoding, headerOf, bitsOfWords}
 
--- what a header is read from. How it is to be read has its place here too.
+-- what a header is read from: the air bits, and how they are to be read
 pub record Signal : Type 0 where
+  pub rules : Rules
   pub air : List ℕ
 
-abbrev pub signal : List ℕ → Signal
-signal air = record { air = air }
+abbrev pub signal : Rules → List ℕ → Signal
+signal rules air = record { rules = rules; air = air }
 
 -- the words that arrived, and the bits of the repaired header
 abbrev pub arrived : Signal → List ℕ
@@ -27,7 +30,11 @@ arrived s = wordsOf (s .air)
 abbrev pub repairedBits : Signal → ℕ
 repairedBits s = bitsOfWords (repairedOf (arrived s))
 
--- THE PAPER'S TABLE, rows 1 to 3: the air bits
+-- THE PAPER'S TABLE, rows 20 and 1 to 3: the limit and the air bits
+-- 20, "limit above 42", which is mostFlips: the limit
+abbrev pub limitAbove42 : Signal → Check Answer
+limitAbove42 s = check (ltb mostFlips (s .rules .limit)) (Refused (refusal 20 (s .rules .limit)))
+
 -- 1, "header slice is not 210 long": its length
 abbrev pub not210Long : Signal → Check Answer
 not210Long s = check (not (eqb (length (s .air)) airBits)) (Refused (refusal 1 (length (s .air))))
@@ -41,9 +48,13 @@ abbrev pub beyondRepair : Signal → Check Answer
 beyondRepair s = check (ltb (firstBeyond (arrived s)) wordCount) (Refused (refusal 3 (firstBeyond (arrived s))))
 
 abbrev pub airChecks : Signal → List (Check Answer)
-airChecks s = not210Long s ∷ noBit s ∷ beyondRepair s ∷ []
+airChecks s = limitAbove42 s ∷ not210Long s ∷ noBit s ∷ beyondRepair s ∷ []
 
--- rows 4 to 6: the repaired header, whose bits are n
+-- rows 21 and 4 to 6: the repaired header, after so many flips, whose bits are n
+-- 21, "flips above the limit": the flips
+abbrev pub flipsAboveLimit : Rules → ℕ → Check Answer
+flipsAboveLimit rules flips = check (ltb (rules .limit) flips) (Refused (refusal 21 flips))
+
 -- 4, "CRC5 differs": CRC5 worked out
 abbrev pub crc5Differs : ℕ → Check Answer
 crc5Differs n = check (not (eqb (crc5Of n) (headerOf n .«crc5»))) (Refused (refusal 4 (crc5Of n)))
@@ -56,12 +67,16 @@ unknownSource n = check (ltb lastSource (headerOf n .«fields» .«src_id»)) (R
 abbrev pub unknownCoding : ℕ → Check Answer
 unknownCoding n = check (ltb lastCoding (headerOf n .«fields» .«ai_type_src»)) (Refused (refusal 6 (headerOf n .«fields» .«ai_type_src»)))
 
-abbrev pub headerChecks : ℕ → List (Check Answer)
-headerChecks n = crc5Differs n ∷ unknownSource n ∷ unknownCoding n ∷ []
+abbrev pub headerChecks : Rules → ℕ → ℕ → List (Check Answer)
+headerChecks rules flips n = flipsAboveLimit rules flips ∷ crc5Differs n ∷ unknownSource n ∷ unknownCoding n ∷ []
 
--- all six, in the paper's order
+-- what is answered of it
+abbrev pub judgedOf : Rules → ℕ → ℕ → Answer
+judgedOf rules flips n = first (Accepted (headerOf n) flips) (headerChecks rules flips n)
+
+-- all eight, in the paper's order
 abbrev pub signalChecks : Signal → List (Check Answer)
-signalChecks s = airChecks s ++ headerChecks (repairedBits s)
+signalChecks s = airChecks s ++ headerChecks (s .rules) (flipsIn (arrived s)) (repairedBits s)
 
 -- what is answered where no row applies
 abbrev pub repairedAnswer : Signal → Answer

@@ -1,4 +1,4 @@
-// The header: its fields, the reader of a header alone (refusals 1 to 6) and the writer (13 to 15).
+// The header: its fields, the reader of a header alone (refusals 20, 1 to 3, 21, 4 to 6) and the writer (13 to 15).
 mod reading;
 mod writing;
 
@@ -11,6 +11,7 @@ ghost use mathlib.Core.Path.{_≡_};
 ghost use Prim.Native.Nat.{_+_};
 ghost use Rattle.header.specs.Fields.{satelliteOf, radioOf};
 ghost use Rattle.header.specs.Patterns.{beside};
+ghost use Rattle.header.specs.Rules.{usualRules};
 
 // The last SrcId and the last AiTypeSrc that are not refused.
 pub const LAST_SOURCE: u8 = 7;
@@ -44,6 +45,21 @@ pub struct Header {
     pub pdu_length: u16,
     pub crc13: u16,
     pub crc5: u8,
+}
+
+// The flips in one header up to which it is believed where a caller names no limit.
+const USUAL_LIMIT: u32 = 28;
+
+// How a header is read: the most flips that are taken, 0 to 42.
+pub struct Rules {
+    pub limit: u32,
+}
+
+// The rules for a caller that names none.
+pub fn usual() -> Rules
+    ensures { λ r. ⌜ r ≡ usualRules ⌝ }
+{
+    Rules { limit: USUAL_LIMIT }
 }
 
 // The repaired header and the number of flips, or the refusal: what is answered of a header alone, and of a whole frame.

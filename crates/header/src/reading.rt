@@ -5,11 +5,15 @@ use crate::Header;
 use crate::LAST_CODING;
 use crate::LAST_SOURCE;
 use crate::Read;
+use crate::Rules;
 use crate::with_patterns;
 use air::AIR_BITS;
+use air::MOST_FLIPS;
 use air::WORD_COUNT;
 use base::BEYOND_REPAIR;
 use base::CRC5_DIFFERS;
+use base::FLIPS_ABOVE_LIMIT;
+use base::LIMIT_ABOVE_42;
 use base::NO_BIT;
 use base::NOT_210_LONG;
 use base::Refusal;
@@ -22,13 +26,14 @@ ghost use mathlib.Core.List.{map};
 ghost use Prim.Native.Nat.{ℕ, _+_, _*_, _<_, _≤_, _^_};
 ghost use lib.ListN.{length, getD, replicate};
 ghost use Rattle.base.specs.Lists.{AreBits};
-ghost use Rattle.base.specs.Checks.{first, refusal};
+ghost use Rattle.base.specs.Checks.{refusal};
 ghost use Rattle.base.specs.Parts.{joined};
 ghost use Rattle.word.specs.Words.{wordLimit, dataOf};
 ghost use Rattle.word.specs.Repairs.{syndromes};
 ghost use Rattle.air.specs.Air.{wordCount, airBits};
+ghost use Rattle.air.specs.Flips.{mostFlips};
 ghost use Rattle.header.specs.Fields.{headerOf, bitsOfWords};
-ghost use Rattle.header.specs.Reading.{signal, headerChecks};
+ghost use Rattle.header.specs.Reading.{signal, judgedOf};
 ghost use Rattle.header.specs.Patterns.{beside, headerRead};
 ghost use Rattle.crc.specs.Halves.{headerBits, hiWidth, loWidth};
 
@@ -85,12 +90,18 @@ fn collect(words: &[u16]) -> u64
     number
 }
 
-// Checks 4 to 6 on the bits of a repaired header.
-fn judge(hi: u64, lo: u64, flips: u32) -> Answer
+// Checks 21 and 4 to 6 on the bits of a repaired header.
+fn judge(rules: Rules, flips: u32, hi: u64, lo: u64) -> Answer
     requires { ⌜ hi < 2 ^ hiWidth ⌝ }
     requires { ⌜ lo < 2 ^ loWidth ⌝ }
-    ensures { λ r. ⌜ r ≡ first (Answer.Accepted (headerOf (headerBits hi lo)) flips) (headerChecks (headerBits hi lo)) ⌝ }
+    ensures { λ r. ⌜ r ≡ judgedOf rules flips (headerBits hi lo) ⌝ }
 {
+    if rules.limit < flips {
+        return Answer::Refused(Refusal {
+            number: FLIPS_ABOVE_LIMIT,
+            place: flips as usize,
+        });
+    }
     let header = unpack(hi, lo);
     let crc5 = crc::crc5(hi, lo);
     if crc5 != header.crc5 {
@@ -117,13 +128,13 @@ fn judge(hi: u64, lo: u64, flips: u32) -> Answer
 }
 
 // The same on fourteen repaired words.
-fn judge_words(words: [u16; WORD_COUNT], flips: u32) -> Answer
+fn judge_words(rules: Rules, flips: u32, words: [u16; WORD_COUNT]) -> Answer
     requires { ⌜ ((k : ℕ) → getD words k 0 < wordLimit) ⌝ }
-    ensures { λ r. ⌜ r ≡ first (Answer.Accepted (headerOf (bitsOfWords words)) flips) (headerChecks (bitsOfWords words)) ⌝ }
+    ensures { λ r. ⌜ r ≡ judgedOf rules flips (bitsOfWords words) ⌝ }
 {
     let hi = collect(&words[0..HI_WORDS]);
     let lo = collect(&words[HI_WORDS..WORD_COUNT]);
-    judge(hi, lo, flips)
+    judge(rules, flips, hi, lo)
 }
 
 // A refusal, with no patterns.
@@ -136,12 +147,13 @@ fn refused(number: u8, place: usize) -> Read
     }
 }
 
-// Checks 3 to 6 on 210 air bits.
-fn read_bits(table: &[u16; TABLE_ROWS], air: &[u8]) -> Read
+// Checks 3, 21 and 4 to 6 on 210 air bits.
+fn read_bits(table: &[u16; TABLE_ROWS], rules: Rules, air: &[u8]) -> Read
     requires { ⌜ now table ≡ syndromes ⌝ }
+    requires { ⌜ rules .limit ≤ mostFlips ⌝ }
     requires { ⌜ length (now air) ≡ airBits ⌝ }
     requires { ⌜ AreBits (now air) ⌝ }
-    ensures { λ r. ⌜ r ≡ headerRead (signal (now (air .entry))) ⌝ }
+    ensures { λ r. ⌜ r ≡ headerRead (signal rules (now (air .entry))) ⌝ }
 {
     let repaired = air::repair_words(table, air::words(air));
     let beyond = repaired.beyond;
@@ -151,14 +163,18 @@ fn read_bits(table: &[u16; TABLE_ROWS], air: &[u8]) -> Read
     let words = repaired.words;
     let flips = repaired.flips;
     let patterns = repaired.patterns;
-    with_patterns(judge_words(words, flips), patterns)
+    with_patterns(judge_words(rules, flips, words), patterns)
 }
 
 // The reader of a header alone, by a lent copy of the syndrome table: what a caller with many headers copies once.
-pub fn read_header_in(table: &[u16; TABLE_ROWS], air: &[u8]) -> Read
+pub fn read_header_in(table: &[u16; TABLE_ROWS], rules: Rules, air: &[u8]) -> Read
     requires { ⌜ now table ≡ syndromes ⌝ }
-    ensures { λ r. ⌜ r ≡ headerRead (signal (now (air .entry))) ⌝ }
+    ensures { λ r. ⌜ r ≡ headerRead (signal rules (now (air .entry))) ⌝ }
 {
+    let limit = rules.limit;
+    if MOST_FLIPS < limit {
+        return refused(LIMIT_ABOVE_42, limit as usize);
+    }
     let n = air.len();
     if n != AIR_BITS {
         return refused(NOT_210_LONG, n);
@@ -167,13 +183,14 @@ pub fn read_header_in(table: &[u16; TABLE_ROWS], air: &[u8]) -> Read
     if at < AIR_BITS {
         return refused(NO_BIT, at);
     }
-    read_bits(table, air)
+    read_bits(table, rules, air)
 }
 
-// The reader of a header alone, of any bytes: the repaired header, the number of flips and the patterns, or the first refusal of 1 to 6.
-pub fn read_header(air: &[u8]) -> Read
-    ensures { λ r. ⌜ r ≡ headerRead (signal (now (air .entry))) ⌝ }
+// The reader of a header alone, of any bytes: the repaired header, the number of flips and the patterns, or the first
+// refusal of 20, 1, 2, 3, 21, 4, 5, 6.
+pub fn read_header(rules: Rules, air: &[u8]) -> Read
+    ensures { λ r. ⌜ r ≡ headerRead (signal rules (now (air .entry))) ⌝ }
 {
     let table = word::table::whole();
-    read_header_in(&table, air)
+    read_header_in(&table, rules, air)
 }

@@ -12,13 +12,13 @@ use Rattle.sheet.specs.declared.Offered.{Offered}
 use Rattle.sheet.specs.Sheets.{heardOf, offerOf}
 use Rattle.record.specs.Records.{airIn, payloadStart, recordSize}
 use Rattle.lines.specs.Lines.{lineOf}
-use Rattle.listing.specs.Listing.{offeredIn}
+use Rattle.listing.specs.Listing.{listedRules, offeredIn}
 use Rattle.listing.specs.Promises.{Takes}
 use Rattle.lines.specs.Rooms.{lineRoom}
 
 -- the payload ends where the record ends
 pub takes : (sheet : Sheet) (k : ℕ) → k ≡ heardOf sheet → (l : List ℕ) (n : ℕ) (before : List ℕ) (at : ℕ) (after : List ℕ) (next : ℕ) (o : Offered)
-    → o ≡ offerOf sheet (frame (airIn l) (take (recordSize n - payloadStart) (drop payloadStart l)))
+    → o ≡ offerOf sheet (frame listedRules (airIn l) (take (recordSize n - payloadStart) (drop payloadStart l)))
     → Put before at (lineOf k n (o .read)) after next → next ≤ at + lineRoom
     → Takes sheet l n before at after (record { sheet = o .sheet; to = next })
 takes sheet k number l n before at after next o is put short =

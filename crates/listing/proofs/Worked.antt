@@ -11,7 +11,7 @@ use Rattle.word.specs.Repairs.{nearest, repairOf}
 use Rattle.crc.specs.Crc.{crcStep}
 use Rattle.crc.specs.Crc5.{message, nineBytes, crc5Over, countedFlown, crc5Of}
 use Rattle.air.specs.Air.{wordAt, wordsOf, firstNoBit}
-use Rattle.air.specs.WordRepairs.{firstBeyond, repairedOf}
+use Rattle.air.specs.WordRepairs.{firstBeyond, repairedOf, patternsIn, flipsIn}
 use Rattle.header.specs.Fields.{headerOf, bitsOfWords}
 use Rattle.sheet.specs.Sheets.{slotOf, refuseOf, acceptedOf, refusedOf, offerAnswer}
 use Rattle.record.specs.Records.{recordSize, cutOf}
@@ -30,5 +30,5 @@ lone-byte = refl
 
 -- "Output for one record with length 0 and 210 zeros, whole"
 pub one-record : listingOf (replicate (recordSize 0) 0) ≡ ascii "pass sheet\n0 refused 4 6\nheard 1 accepted 0 refused 1\n"
-unfolding listingOf scanOf title lastLine decimalOf acceptedOf refusedOf sumTo cutOf offerAnswer slotOf refuseOf tabulate lowest multipleOf distance onesIn nearest repairOf crcStep message nineBytes crc5Over countedFlown crc5Of wordAt wordsOf firstNoBit firstBeyond repairedOf headerOf bitsOfWords flatMap
+unfolding listingOf scanOf title lastLine decimalOf acceptedOf refusedOf sumTo cutOf offerAnswer slotOf refuseOf tabulate lowest multipleOf distance onesIn nearest repairOf crcStep message nineBytes crc5Over countedFlown crc5Of wordAt wordsOf firstNoBit firstBeyond repairedOf patternsIn flipsIn headerOf bitsOfWords flatMap
 one-record = refl

@@ -5,6 +5,8 @@ use mathlib.Core.List.{List, [], _++_}
 use Prim.Native.Nat.{ℕ, zero, suc}
 use lib.Dec.{ltb}
 use lib.ListN.{length, drop}
+use Rattle.air.specs.Flips.{mostFlips}
+use Rattle.header.specs.declared.Rules.{Rules}
 use Rattle.sheet.specs.declared.Sheet.{Sheet}
 use Rattle.sheet.specs.declared.Offered.{Offered}
 use Rattle.sheet.specs.Sheets.{newSheet, heardOf, fullOf, offerOf}
@@ -31,9 +33,13 @@ stay sheet l over = record { sheet = sheet; text = []; rest = l; over = over }
 abbrev pub after : List ℕ → Scan → Scan
 after text s = record { sheet = s .sheet; text = text ++ s .text; rest = s .rest; over = s .over }
 
+-- "the listing names 42": the most flips that repair undoes
+abbrev pub listedRules : Rules
+listedRules = record { limit = mostFlips }
+
 -- the record at the front, with n payload bytes, offered to a sheet; its line
 abbrev pub offeredIn : Sheet → ℕ → List ℕ → Offered
-offeredIn sheet n l = offerOf sheet (frame (airIn l) (payloadIn n l))
+offeredIn sheet n l = offerOf sheet (frame listedRules (airIn l) (payloadIn n l))
 
 abbrev pub lineIn : Sheet → ℕ → List ℕ → List ℕ
 lineIn sheet n l = lineOf (heardOf sheet) n (offeredIn sheet n l .read)

@@ -12,16 +12,17 @@ use Rattle.base.specs.declared.Refusal.{Refusal}
 use Rattle.base.specs.Checks.{refusal}
 use Rattle.base.specs.Lists.{lowest}
 use Rattle.base.proofs.Lowest.{Passed, starts, goes-on, stops, ends}
-use Rattle.base.proofs.Numbers.{place-lt}
+use Rattle.base.proofs.Numbers.{placed}
 use Rattle.air.specs.Air.{wordCount}
 use Rattle.air.specs.Flips.{mostFlips}
 use Rattle.header.specs.declared.Header.{Header}
 use Rattle.header.specs.declared.Read.{Read}
+use Rattle.header.specs.declared.Rules.{Rules}
 use Rattle.header.specs.declared.Answer.{Answer}
 use Rattle.header.specs.declared.Answer.the-variants.{Accepted, Refused}
 use Rattle.header.specs.Patterns.{patternsOf}
 use Rattle.header.proofs.Beside.{beside-answer}
-use Rattle.frame.specs.Frames.{Frame, frame, frameOf, frameRead}
+use Rattle.frame.specs.Frames.{Frame, frame, frameNumbers, frameOf, frameRead}
 use Rattle.frame.proofs.Bounds.{frame-source, frame-number, frame-flips}
 use Rattle.frame.proofs.Rules.{frame-first, frame-read-is, frame-answer}
 use Rattle.sheet.specs.declared.Source.{Source}
@@ -83,12 +84,12 @@ pub data Countable : Answer → Type 0 where
 
 -- every answer to a frame has
 pub frame-countable : (f : Frame) → Countable (frameOf f)
-unfolding slotOf
+unfolding slotOf lowest
 frame-countable f = by (frameOf f) refl
   where
     by : (a : Answer) → frameOf f ≡ a → Countable a
     by (Accepted h flips) is = recorded {h = h} (omega (arith, frame-source f h flips is)) (frame-flips f h flips is)
-    by (Refused why) is = numbered (place-lt counted (why .number) (frame-number f why is))
+    by (Refused why) is = numbered (placed counted frameNumbers (why .number) refl (frame-number f why is))
 
 -- a full sheet gives 17, and any other the frame's answer
 module _ (sheet : Sheet) (f : Frame) where
@@ -117,19 +118,19 @@ pub offered-answer : (sheet : Sheet) (f : Frame) → offerOf sheet f .read .answ
 offered-answer sheet f = beside-answer (patternsOf (f .head)) (offerAnswer sheet f)
 
 -- THE SAME, as the sheet finds it: what was read of the frame, and a what its answer was found to be
-module _ (sheet : Sheet) (air payload : List ℕ) where
-  pub gives-17 : (full : Bool) → full ≡ fullOf sheet → full ≡ true → record { read = record { answer = Refused (refusal 17 fullSheet); patterns = replicate wordCount 0 }; sheet = sheet } ≡ offerOf sheet (frame air payload)
-  gives-17 full tested taken = sym (full-refuses sheet (frame air payload) (leb-true fullSheet (heardOf sheet) (sym tested ∙ taken)))
+module _ (sheet : Sheet) (rules : Rules) (air payload : List ℕ) where
+  pub gives-17 : (full : Bool) → full ≡ fullOf sheet → full ≡ true → record { read = record { answer = Refused (refusal 17 fullSheet); patterns = replicate wordCount 0 }; sheet = sheet } ≡ offerOf sheet (frame rules air payload)
+  gives-17 full tested taken = sym (full-refuses sheet (frame rules air payload) (leb-true fullSheet (heardOf sheet) (sym tested ∙ taken)))
 
-  module _ (read : Read) (is : read ≡ frameRead (frame air payload)) where
+  module _ (read : Read) (is : read ≡ frameRead (frame rules air payload)) where
     pub has-record : (h : Header) (flips : ℕ) → read .answer ≡ Accepted h flips → recordOf h < records
-    has-record h flips e = omega (arith, frame-source (frame air payload) h flips (sym (frame-answer (frame air payload) read is) ∙ e))
+    has-record h flips e = omega (arith, frame-source (frame rules air payload) h flips (sym (frame-answer (frame rules air payload) read is) ∙ e))
 
-    pub takes : heardOf sheet < fullSheet → (a : Answer) → read .answer ≡ a → (after : Sheet) → after ≡ countedOf sheet a → record { read = read; sheet = after } ≡ offerOf sheet (frame air payload)
+    pub takes : heardOf sheet < fullSheet → (a : Answer) → read .answer ≡ a → (after : Sheet) → after ≡ countedOf sheet a → record { read = read; sheet = after } ≡ offerOf sheet (frame rules air payload)
     takes room a e after counts =
-        let same : a ≡ frameOf (frame air payload) = sym e ∙ frame-answer (frame air payload) read is in
-        ap₂ (λ (x : Read) (y : Sheet). record { read = x; sheet = y }) (is ∙ frame-read-is (frame air payload)) (counts ∙ ap (countedOf sheet) same)
-        ∙ sym (room-takes sheet (frame air payload) room)
+        let same : a ≡ frameOf (frame rules air payload) = sym e ∙ frame-answer (frame rules air payload) read is in
+        ap₂ (λ (x : Read) (y : Sheet). record { read = x; sheet = y }) (is ∙ frame-read-is (frame rules air payload)) (counts ∙ ap (countedOf sheet) same)
+        ∙ sym (room-takes sheet (frame rules air payload) room)
 
 -- a sheet that is not found full has room
 pub has-room : (sheet : Sheet) (full : Bool) → full ≡ fullOf sheet → full ≡ false → heardOf sheet < fullSheet

@@ -13,7 +13,7 @@ use Rattle.header.specs.declared.Answer.the-variants.{Accepted, Refused}
 use Rattle.header.specs.Fields.{lastSource}
 use Rattle.header.specs.Reading.{repairedAnswer}
 use Rattle.header.specs.Patterns.{beside, patternsOf}
-use Rattle.frame.specs.Frames.{Frame, frameNumbers, frameChecks}
+use Rattle.frame.specs.Frames.{Frame, frameChecks}
 use Rattle.sheet.specs.declared.Source.{Source}
 use Rattle.sheet.specs.declared.Sheet.{Sheet}
 use Rattle.sheet.specs.declared.Offered.{Offered}
@@ -26,9 +26,9 @@ records = suc lastSource
 abbrev pub recordOf : Header → ℕ
 recordOf h = h .«fields» .«src_id»
 
--- "and a count for each of the refusals 1 to 8", in this order
+-- "and a count for each of the refusals 1 to 8", 20 and 21: "The sheet counts both"
 abbrev pub counted : List ℕ
-counted = frameNumbers
+counted = 1 ∷ 2 ∷ 3 ∷ 4 ∷ 5 ∷ 6 ∷ 7 ∷ 8 ∷ 20 ∷ 21 ∷ []
 
 abbrev pub refusalCounts : ℕ
 refusalCounts = length counted
@@ -55,7 +55,7 @@ acceptOf sheet h flips = record {
   refusals = sheet .refusals;
 }
 
--- "A frame refused with 1 to 8 adds one to that refusal's count and touches no frame record." Any other number changes nothing.
+-- "A frame refused with 1 to 8", 20 or 21 "adds one to that refusal's count and touches no frame record." Any other number changes nothing.
 unfoldable pub refuseOf : Sheet → ℕ → Sheet
 refuseOf sheet number =
     cond (ltb (slotOf number) refusalCounts)

@@ -3,6 +3,8 @@ use air::WORD_COUNT;
 use base::BEYOND_REPAIR;
 use base::CRC5_DIFFERS;
 use base::CRC13_DIFFERS;
+use base::FLIPS_ABOVE_LIMIT;
+use base::LIMIT_ABOVE_42;
 use base::NO_BIT;
 use base::NOT_210_LONG;
 use base::OTHER_LENGTH;
@@ -13,6 +15,7 @@ use base::UNKNOWN_SOURCE;
 use header::Answer;
 use header::Header;
 use header::Read;
+use header::Rules;
 use word::table::TABLE_ROWS;
 ghost use mathlib.Core.Path.{_≡_};
 ghost use Prim.Native.Nat.{_*_, _<_, _≤_};
@@ -25,7 +28,7 @@ ghost use Rattle.sheet.specs.Sheets.{records, recordOf, refusalCounts, s
 pub const RECORDS: usize = header::LAST_SOURCE as usize + 1;
 
 // The refusals that are counted, in the order of their counts.
-pub const REFUSAL_COUNTS: usize = 8;
+pub const REFUSAL_COUNTS: usize = 10;
 
 const COUNTED: [u8; REFUSAL_COUNTS] = [
     NOT_210_LONG,
@@ -36,6 +39,8 @@ const COUNTED: [u8; REFUSAL_COUNTS] = [
     UNKNOWN_CODING,
     OTHER_LENGTH,
     CRC13_DIFFERS,
+    LIMIT_ABOVE_42,
+    FLIPS_ABOVE_LIMIT,
 ];
 
 // Frame counters run from 0 to 15.
@@ -219,12 +224,18 @@ pub fn full(sheet: Sheet) -> bool
 }
 
 // A frame offered to a sheet that is not full, by a lent copy of the syndrome table: the frame's own answer, counted.
-pub fn take_in(table: &[u16; TABLE_ROWS], sheet: Sheet, air: &[u8], payload: &[u8]) -> Offered
+pub fn take_in(
+    table: &[u16; TABLE_ROWS],
+    sheet: Sheet,
+    rules: Rules,
+    air: &[u8],
+    payload: &[u8],
+) -> Offered
     requires { ⌜ now table ≡ syndromes ⌝ }
     requires { ⌜ heardOf sheet < fullSheet ⌝ }
-    ensures { λ r. ⌜ r ≡ offerOf sheet (frame (now (air .entry)) (now (payload .entry))) ⌝ }
+    ensures { λ r. ⌜ r ≡ offerOf sheet (frame rules (now (air .entry)) (now (payload .entry))) ⌝ }
 {
-    let read = frame::read_frame_in(table, air, payload);
+    let read = frame::read_frame_in(table, rules, air, payload);
     let answer = read.answer;
     match answer {
         Answer::Accepted { header, flips } => {
@@ -240,8 +251,8 @@ pub fn take_in(table: &[u16; TABLE_ROWS], sheet: Sheet, air: &[u8], payload: &[u
 
 // A frame offered to any sheet. A full sheet refuses it with 17 and stays as it is; else the frame has its own answer, and the
 // sheet has counted it.
-pub fn offer(sheet: Sheet, air: &[u8], payload: &[u8]) -> Offered
-    ensures { λ r. ⌜ r ≡ offerOf sheet (frame (now (air .entry)) (now (payload .entry))) ⌝ }
+pub fn offer(sheet: Sheet, rules: Rules, air: &[u8], payload: &[u8]) -> Offered
+    ensures { λ r. ⌜ r ≡ offerOf sheet (frame rules (now (air .entry)) (now (payload .entry))) ⌝ }
 {
     if full(sheet) {
         let answer = Answer::Refused(Refusal {
@@ -253,5 +264,5 @@ pub fn offer(sheet: Sheet, air: &[u8], payload: &[u8]) -> Offered
         return Offered { read, sheet };
     }
     let table = word::table::whole();
-    take_in(&table, sheet, air, payload)
+    take_in(&table, sheet, rules, air, payload)
 }

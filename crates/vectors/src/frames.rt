@@ -12,6 +12,7 @@ use header::Answer;
 use header::Fields;
 use header::Header;
 use header::Read;
+use header::Rules;
 
 // What the output of the header writer holds beforehand.
 const HELD: u8 = 7;
@@ -67,16 +68,23 @@ pub fn put_read(reply: &mut Reply, read: Read) {
     }
 }
 
+// The rules at the start of a record.
+pub fn rules_of(record: &Record) -> Rules {
+    Rules {
+        limit: numbers::four_at(record, 0) as u32,
+    }
+}
+
 pub fn header_reply(record: &Record, reply: &mut Reply) {
-    let air = numbers::sized(record, layout::HEADER_ROOM);
-    put_read(reply, header::read_header(air));
+    let air = numbers::sized(record, layout::RULES, layout::HEADER_ROOM);
+    put_read(reply, header::read_header(rules_of(record), air));
 }
 
 pub fn frame_reply(record: &Record, reply: &mut Reply) {
     let mut space = [0u8; layout::PAYLOAD_ROOM];
     let payload = numbers::payload_at(record, layout::FRAMES_RULE, &mut space);
-    let air = numbers::sized(record, layout::HEADER_ROOM);
-    put_read(reply, frame::read_frame(air, payload));
+    let air = numbers::sized(record, layout::RULES, layout::HEADER_ROOM);
+    put_read(reply, frame::read_frame(rules_of(record), air, payload));
 }
 
 fn fields_of(record: &Record) -> Fields {

@@ -37,6 +37,9 @@ pub type Reply = [u8; REPLY_BYTES];
 // A length, before the bytes that it counts.
 pub const LENGTH: usize = 2;
 
+// How a frame is read, at the start of `headers`, `frames` and `sheets`: the limit.
+pub const RULES: usize = 4;
+
 // The most bytes of a header slice, of a payload of `crc13` or of a payload rule, and of a payload of `pages`.
 pub const HEADER_ROOM: usize = 256;
 
@@ -54,7 +57,7 @@ const RULE: usize = 4;
 
 pub const WRITES_RULE: usize = WRITES_ROOM + 2;
 
-pub const FRAMES_RULE: usize = LENGTH + HEADER_ROOM;
+pub const FRAMES_RULE: usize = RULES + LENGTH + HEADER_ROOM;
 
 pub const SHEETS_RULE: usize = SHEETS_HEADER + 210;
 
@@ -72,14 +75,16 @@ pub const SPREAD: usize = 16;
 
 pub const RAW: usize = 18;
 
-// A sheet: eight sources, then eight counts of refusals. In a record of `sheets` the header follows it.
+// A sheet: eight sources, then ten counts of refusals. In a record of `sheets` the header follows it.
 pub const SOURCE: usize = 18;
 
 pub const REFUSALS: usize = 8 * SOURCE;
 
 pub const COUNT: usize = 4;
 
-pub const SHEETS_HEADER: usize = REFUSALS + 8 * COUNT;
+const SHEET: usize = REFUSALS + 10 * COUNT;
+
+pub const SHEETS_HEADER: usize = RULES + SHEET;
 
 // An answer is a refusal's number, or 0, and its place. The values follow.
 pub const NUMBER: usize = 0;
@@ -119,7 +124,7 @@ pub fn sizes_of(kind: u8) -> Sizes
         ),
         ROWS => Sizes(ROWS_ROOM + 2, VALUES + 2 + USER_ROOM),
         SHOWN => Sizes(RAW + 2, VALUES + 8),
-        SHEETS => Sizes(SHEETS_RULE + RULE, SHEET_AFTER + SHEETS_HEADER),
+        SHEETS => Sizes(SHEETS_RULE + RULE, SHEET_AFTER + SHEET),
         _ => Sizes(0, 0),
     }
 }

@@ -71,16 +71,13 @@ pub fn part(bytes: &[u8], from: usize, to: usize) -> &[u8]
     &bytes[from..to]
 }
 
-// The bytes of a record that starts with their length, of which there are at most so many.
-pub fn sized(bytes: &[u8], most: usize) -> &[u8]
-    requires { do ⌜ (← ⟦layout::LENGTH⟧) + most ≤ length (now bytes) ⌝ }
+// The bytes behind their length, which stands at a place, and of which there are at most so many.
+pub fn sized(bytes: &[u8], at: usize, most: usize) -> &[u8]
+    requires { do ⌜ at + (← ⟦layout::LENGTH⟧) + most ≤ length (now bytes) ⌝ }
     ensures { λ r. ⌜ length (now r) ≤ most ⌝ }
 {
-    part(
-        bytes,
-        layout::LENGTH,
-        layout::LENGTH + length_at(bytes, 0, most),
-    )
+    let start = at + layout::LENGTH;
+    part(bytes, start, start + length_at(bytes, at, most))
 }
 
 // Fills the front of a slice with a start and then each byte a step above the last, modulo 256.

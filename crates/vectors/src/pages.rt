@@ -57,7 +57,7 @@ fn put_page(reply: &mut Reply, header: PageHeader, rows: [i16; 17]) {
 }
 
 pub fn page_reply(record: &Record, reply: &mut Reply) {
-    let answer = page::read_page(numbers::sized(record, layout::PAGE_ROOM));
+    let answer = page::read_page(numbers::sized(record, 0, layout::PAGE_ROOM));
     let rows = answer.rows;
     let verdict = answer.verdict;
     match verdict {

@@ -11,7 +11,7 @@ ghost use Prim.Native.Nat.{_<_};
 fn source_at(record: &Record, k: usize) -> Source
     requires { ⌜ k < 8 ⌝ }
 {
-    let at = k * layout::SOURCE;
+    let at = layout::RULES + k * layout::SOURCE;
     Source {
         frames: numbers::four_at(record, at) as u32,
         repaired: numbers::four_at(record, at + 4) as u32,
@@ -23,9 +23,10 @@ fn source_at(record: &Record, k: usize) -> Source
 }
 
 fn refusals_at(record: &Record, k: usize) -> u32
-    requires { ⌜ k < 8 ⌝ }
+    requires { ⌜ k < 10 ⌝ }
 {
-    numbers::four_at(record, layout::REFUSALS + k * layout::COUNT) as u32
+    let at = layout::RULES + layout::REFUSALS + k * layout::COUNT;
+    numbers::four_at(record, at) as u32
 }
 
 fn sheet_of(record: &Record) -> Sheet {
@@ -48,6 +49,8 @@ fn sheet_of(record: &Record) -> Sheet {
         refusals_at(record, 5),
         refusals_at(record, 6),
         refusals_at(record, 7),
+        refusals_at(record, 8),
+        refusals_at(record, 9),
     ];
     Sheet { sources, refusals }
 }
@@ -68,7 +71,7 @@ fn put_source(reply: &mut Reply, k: usize, source: Source)
 }
 
 fn put_refusals(reply: &mut Reply, k: usize, count: u32)
-    requires { ⌜ k < 8 ⌝ }
+    requires { ⌜ k < 10 ⌝ }
 {
     let at = layout::SHEET_AFTER + layout::REFUSALS + k * layout::COUNT;
     numbers::put_four(reply, at, count);
@@ -93,13 +96,15 @@ fn put_sheet(reply: &mut Reply, sheet: Sheet) {
     put_refusals(reply, 5, refusals[5]);
     put_refusals(reply, 6, refusals[6]);
     put_refusals(reply, 7, refusals[7]);
+    put_refusals(reply, 8, refusals[8]);
+    put_refusals(reply, 9, refusals[9]);
 }
 
 pub fn sheet_reply(record: &Record, reply: &mut Reply) {
     let mut space = [0u8; layout::PAYLOAD_ROOM];
     let payload = numbers::payload_at(record, layout::SHEETS_RULE, &mut space);
     let header = numbers::part(record, layout::SHEETS_HEADER, layout::SHEETS_RULE);
-    let offered = sheet::offer(sheet_of(record), header, payload);
+    let offered = sheet::offer(sheet_of(record), frames::rules_of(record), header, payload);
     let read = offered.read;
     let after = offered.sheet;
     frames::put_read(reply, read);

@@ -38,7 +38,7 @@ pub fn encode_reply(record: &Record, reply: &mut Reply) {
 }
 
 pub fn crc13_reply(record: &Record, reply: &mut Reply) {
-    let payload = numbers::sized(record, layout::PAYLOAD_ROOM);
+    let payload = numbers::sized(record, 0, layout::PAYLOAD_ROOM);
     let next = numbers::put_two(reply, 0, payload.len() as u16);
     numbers::put_two(reply, next, crc::crc13(payload));
 }

@@ -19,7 +19,7 @@ pub const DATA_BIT: u16 = 1024;
 const VALID_COUNT: u16 = 32;
 
 // The most places in which a word may differ from a valid one and still be repaired.
-const RADIUS: u32 = 3;
+pub const RADIUS: u32 = 3;
 
 // What repair makes of a number: the valid word within three flips of it, and the flips: bit i is set where position i was flipped.
 pub enum Repaired {

@@ -1,18 +1,15 @@
 //! The inputs of each kind.
 
-use super::{stored, telling, Kind};
+use super::frame::{
+    fresh_header, light_damage, sized, Frame, PayloadRule, BEYOND, PAYLOAD_ROOM, WIDEST,
+};
+use super::{sheets, stored, telling, Kind};
 use crate::air::{AIR_BITS, WORDS};
-use crate::header::{largest, Field, Header, FIELDS, GIVEN, HEADER_BITS, LONGEST_PAYLOAD, WIDTHS};
+use crate::header::{largest, Field, Header, GIVEN, HEADER_BITS, LONGEST_PAYLOAD, WIDTHS};
 use crate::page::{EPS_ROWS, ROWS};
 use crate::rng::Rng;
-use crate::sample::{burst, flip_pattern, flip_some, seal, LONGEST_BURST};
-use crate::sheet::{COUNTED_REFUSALS, FULL, SOURCES};
-
-/// Room for a header slice in a record.
-pub(super) const HEADER_ROOM: usize = 256;
-
-/// Room for a payload of `crc13`, and the longest of a payload rule.
-pub(super) const PAYLOAD_ROOM: usize = 2_047;
+use crate::rules::Rules;
+use crate::sample::{burst, flip_pattern, flip_some, LONGEST_BURST};
 
 /// Room for a payload of `pages`.
 pub(super) const PAGE_ROOM: usize = 1_100;
@@ -32,71 +29,15 @@ pub(super) fn mixture(kind: Kind, seed: u64) -> Vec<Vec<u8>> {
         Kind::Encode => (0..32).map(|data| vec![data]).collect(),
         Kind::Crc13 => crc13_inputs(rng),
         Kind::Crc5 => crc5_inputs(rng),
-        Kind::Headers => header_slices(rng)
-            .iter()
-            .map(|s| sized(s, HEADER_ROOM))
-            .collect(),
+        Kind::Headers => base_headers(rng).iter().map(Frame::header_input).collect(),
         Kind::Writes => write_inputs(rng),
         Kind::Frames => frame_inputs(rng),
         Kind::Pages => pages(rng).iter().map(|p| sized(p, PAGE_ROOM)).collect(),
         Kind::Rows => row_inputs(rng),
         Kind::Shown => shown_inputs(rng),
-        Kind::Sheets => sheet_inputs(rng),
+        Kind::Sheets => sheets::inputs(rng),
         Kind::Stored => stored::inputs(seed),
     }
-}
-
-/// The length in two bytes, then the bytes, then zeros up to so many bytes.
-pub(super) fn sized(bytes: &[u8], room: usize) -> Vec<u8> {
-    let mut record = (bytes.len() as u16).to_be_bytes().to_vec();
-    record.extend(bytes);
-    record.resize(2 + room, 0);
-    record
-}
-
-/// A payload that is told by its length, its first byte and the step to the next.
-#[derive(Clone, Copy)]
-pub(super) struct PayloadRule {
-    pub length: u16,
-    pub start: u8,
-    pub step: u8,
-}
-
-impl PayloadRule {
-    pub fn chance(rng: &mut Rng, length: usize) -> PayloadRule {
-        let [start, step] = (rng.below(65_536) as u16).to_be_bytes();
-        PayloadRule {
-            length: length as u16,
-            start,
-            step,
-        }
-    }
-
-    pub fn payload(&self) -> Vec<u8> {
-        (0..self.length)
-            .map(|k| self.start.wrapping_add(self.step.wrapping_mul(k as u8)))
-            .collect()
-    }
-
-    fn bytes(&self) -> [u8; 4] {
-        let [high, low] = self.length.to_be_bytes();
-        [high, low, self.start, self.step]
-    }
-}
-
-/// One input of `frames`.
-pub(super) fn frame_input(slice: &[u8], rule: PayloadRule) -> Vec<u8> {
-    let mut record = sized(slice, HEADER_ROOM);
-    record.extend(rule.bytes());
-    record
-}
-
-/// One input of `sheets`.
-pub(super) fn sheet_input(sheet: &MadeUp, air: &[u8; AIR_BITS], rule: PayloadRule) -> Vec<u8> {
-    let mut record = sheet.bytes();
-    record.extend(air);
-    record.extend(rule.bytes());
-    record
 }
 
 /// Lengths 0 to 64 and some up to 2,047 with bytes by chance; payloads of 00 and of FF; each one bit of
@@ -139,26 +80,6 @@ fn crc5_inputs(rng: &mut Rng) -> Vec<Vec<u8>> {
     inputs
 }
 
-/// A header in range with the payload's length and checksum, and a right CRC5.
-pub(super) fn fresh_header(rng: &mut Rng, payload: &[u8]) -> Header {
-    let mut header = Header::default();
-    for field in 0..GIVEN {
-        header.values[field] = rng.within(0..=u32::from(largest(field))) as u16;
-    }
-    seal(&mut header, payload);
-    header
-}
-
-/// One to three flips in about every third word.
-fn light_damage(rng: &mut Rng, air: &mut [u8; AIR_BITS]) {
-    for word in 0..WORDS {
-        if rng.one_in(3) {
-            let count = rng.within(1..=3);
-            flip_some(rng, air, word, count);
-        }
-    }
-}
-
 /// Header slices for each answer of the reader, and for the order of its refusals.
 fn header_slices(rng: &mut Rng) -> Vec<Vec<u8>> {
     let mut slices = Vec::new();
@@ -176,7 +97,7 @@ fn header_slices(rng: &mut Rng) -> Vec<Vec<u8>> {
             air[index] = value;
             air[209] |= value;
             slices.push(air.to_vec());
-            flip_pattern(&mut air, 0, 0x000F);
+            flip_pattern(&mut air, 0, BEYOND);
             slices.push(air.to_vec());
         }
     }
@@ -210,13 +131,13 @@ fn header_slices(rng: &mut Rng) -> Vec<Vec<u8>> {
             slices.push(air.to_vec());
         }
     }
-    // 3: words beyond repair; 0x000F is at distance 4 of word 0 and within 3 of none.
+    // 3: words beyond repair
     for word in 0..WORDS {
         for other in word..WORDS {
             let mut air = fresh_header(rng, &[]).to_air();
-            flip_pattern(&mut air, word, 0x000F);
+            flip_pattern(&mut air, word, BEYOND);
             if other > word {
-                flip_pattern(&mut air, other, 0x000F);
+                flip_pattern(&mut air, other, BEYOND);
             }
             slices.push(air.to_vec());
         }
@@ -248,6 +169,34 @@ fn header_slices(rng: &mut Rng) -> Vec<Vec<u8>> {
         slices.push((0..AIR_BITS).map(|_| rng.below(2) as u8).collect());
     }
     slices
+}
+
+/// A frame under the rules that refuse none for its flips.
+fn widest(slice: Vec<u8>, rule: PayloadRule) -> Frame {
+    let rules = WIDEST;
+    Frame { rules, slice, rule }
+}
+
+/// The header slices, and some under limits by chance, with a payload that belongs to few of them.
+fn base_headers(rng: &mut Rng) -> Vec<Frame> {
+    let rule = PayloadRule {
+        length: 5,
+        start: 1,
+        step: 1,
+    };
+    let slices = header_slices(rng).into_iter();
+    let mut frames: Vec<Frame> = slices.map(|slice| widest(slice, rule)).collect();
+    // 21 about as often as not
+    for _ in 0..200 {
+        let mut air = fresh_header(rng, &rule.payload()).to_air();
+        light_damage(rng, &mut air);
+        let limit = rng.below(20);
+        frames.push(Frame {
+            rules: Rules { limit },
+            ..widest(air.to_vec(), rule)
+        });
+    }
+    frames
 }
 
 /// One input of `writes`.
@@ -306,8 +255,8 @@ fn write_inputs(rng: &mut Rng) -> Vec<Vec<u8>> {
 
 /// Frames that are accepted, or refused with 7 or 8; then every slice of `headers`.
 fn frame_inputs(rng: &mut Rng) -> Vec<Vec<u8>> {
-    let mut inputs = Vec::new();
-    let mut push = |slice: &[u8], rule: PayloadRule| inputs.push(frame_input(slice, rule));
+    let mut frames = Vec::new();
+    let mut push = |air: &[u8], rule: PayloadRule| frames.push(widest(air.to_vec(), rule));
     for round in 0..200 {
         let length = match round {
             0..=9 => round,
@@ -335,17 +284,8 @@ fn frame_inputs(rng: &mut Rng) -> Vec<Vec<u8>> {
         push(&wrong.to_air(), rule);
         push(&wrong.to_air(), other(length + 2));
     }
-    for slice in header_slices(rng) {
-        push(
-            &slice,
-            PayloadRule {
-                length: 5,
-                start: 1,
-                step: 1,
-            },
-        );
-    }
-    inputs
+    frames.extend(base_headers(rng));
+    frames.iter().map(Frame::frame_input).collect()
 }
 
 /// Payloads around each limit of the page reader, tagged and not, with FrameLength right and wrong.
@@ -466,101 +406,6 @@ fn shown_inputs(rng: &mut Rng) -> Vec<Vec<u8>> {
     for _ in 0..10_000 {
         let (c0, c1) = (rng.next_u64(), rng.next_u64());
         push(c0, c1, rng.below(40_000) as u16, rng.below(65_536) as u16);
-    }
-    inputs
-}
-
-/// The counts and last counters of a made-up sheet.
-pub(super) struct MadeUp {
-    /// accepted, repaired, missed, repeats
-    counts: [[u32; 4]; SOURCES],
-    last: [Option<u8>; SOURCES],
-    refused: [u32; COUNTED_REFUSALS],
-}
-
-impl MadeUp {
-    /// A sheet that was offered nothing.
-    pub fn new() -> MadeUp {
-        MadeUp {
-            counts: [[0; 4]; SOURCES],
-            last: [None; SOURCES],
-            refused: [0; COUNTED_REFUSALS],
-        }
-    }
-
-    fn bytes(&self) -> Vec<u8> {
-        let mut bytes = Vec::new();
-        for (counts, last) in self.counts.iter().zip(self.last) {
-            bytes.extend(counts.iter().flat_map(|count| count.to_be_bytes()));
-            bytes.extend([last.is_some() as u8, last.unwrap_or(0)]);
-        }
-        bytes.extend(self.refused.iter().flat_map(|count| count.to_be_bytes()));
-        bytes
-    }
-
-    /// Sheets of five sorts: new, small, about to be full by so many, with counts at their limit, and
-    /// with sums past 32 bits.
-    fn chance(rng: &mut Rng) -> MadeUp {
-        let mut sheet = MadeUp::new();
-        let sort = rng.below(5);
-        if sort == 0 {
-            return sheet;
-        }
-        for source in 0..SOURCES {
-            sheet.counts[source] = [(); 4].map(|()| rng.below(1_000));
-            sheet.last[source] = match rng.below(8) {
-                0 => None,
-                1 => Some(rng.below(256) as u8),
-                _ => Some(rng.below(16) as u8),
-            };
-        }
-        sheet.refused.fill_with(|| rng.below(1_000));
-        match sort {
-            2 => {
-                let total = FULL as u32 + rng.below(4) - 2;
-                let rest: u32 = sheet.counts.iter().map(|c| c[0]).sum::<u32>()
-                    + sheet.refused[1..].iter().sum::<u32>();
-                sheet.refused[0] = total - rest;
-            }
-            3 => {
-                for counts in &mut sheet.counts {
-                    counts[1..].fill_with(|| u32::MAX - rng.below(20));
-                }
-            }
-            4 => {
-                sheet.counts[rng.below(8) as usize][0] = u32::MAX;
-                sheet.refused[rng.below(8) as usize] = u32::MAX;
-            }
-            _ => {}
-        }
-        sheet
-    }
-}
-
-/// Made-up sheets, each offered a frame that is accepted two times in three.
-fn sheet_inputs(rng: &mut Rng) -> Vec<Vec<u8>> {
-    let mut inputs = Vec::new();
-    for _ in 0..2_000 {
-        let sheet = MadeUp::chance(rng);
-        let length = rng.below(80) as usize;
-        let rule = PayloadRule::chance(rng, length);
-        let mut header = fresh_header(rng, &rule.payload());
-        // 4 to 8 by one field that is not as it should be; most fields may be anything
-        if rng.one_in(4) {
-            let field = rng.below(FIELDS as u32) as usize;
-            header.values[field] ^= rng.within(1..=(1 << WIDTHS[field]) - 1) as u16;
-            if field != Field::Crc5 as usize {
-                header[Field::Crc5] = header.crc5();
-            }
-        }
-        let mut air = header.to_air();
-        light_damage(rng, &mut air);
-        match rng.below(16) {
-            0 => flip_some(rng, &mut air, 5, 7),
-            1 => air[rng.below(AIR_BITS as u32) as usize] = 2,
-            _ => {}
-        }
-        inputs.push(sheet_input(&sheet, &air, rule));
     }
     inputs
 }

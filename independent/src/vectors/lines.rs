@@ -7,7 +7,7 @@ use super::replies::{AIR_ROOM, FIELD_BYTES, NAN_BITS, USER_ROOM};
 use super::Kind;
 use crate::air::WORDS;
 use crate::page::ROWS;
-use crate::sheet::{COUNTED_REFUSALS, SOURCES};
+use crate::sheet::{COUNTS, SOURCES};
 
 /// The line of a reply of any kind but `stored`, without its line feed.
 pub(super) fn line(kind: Kind, reply: &[u8]) -> String {
@@ -115,7 +115,7 @@ fn sheet_line(reply: &mut Bytes) -> String {
             (_, last) => add(&mut line, last),
         }
     }
-    for _ in 0..COUNTED_REFUSALS {
+    for _ in 0..COUNTS {
         add(&mut line, reply.u32());
     }
     line

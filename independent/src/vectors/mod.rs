@@ -1,14 +1,16 @@
 //! Vectors: inputs that a program in another language answers too, so that the two can be compared.
 //!
 //! Each kind has a stream of inputs, a reply to each input and a line for each reply. README.md tells
-//! their format; `inputs.rs` and `telling.rs` say which inputs there are. A seed (1 where none is named)
+//! their format; `inputs.rs`, `sheets.rs` and `telling` say which inputs there are. A seed (1 where none is named)
 //! drives those that are left to chance.
 
 mod bytes;
 mod compare;
+mod frame;
 mod inputs;
 mod lines;
 mod replies;
+mod sheets;
 mod stored;
 mod telling;
 
@@ -59,13 +61,13 @@ const SIZES: [(usize, usize); 11] = [
     (1, 3),
     (2_049, 4),
     (65, 1),
-    (258, 60),
-    (20, 267),
     (262, 60),
+    (20, 267),
+    (266, 60),
     (1_102, 80),
     (36, 75),
     (20, 17),
-    (390, 236),
+    (402, 244),
 ];
 
 impl Kind {

@@ -1,7 +1,9 @@
 //! The reply to each input.
 
 use super::bytes::{put, Bytes};
-use super::inputs::{PayloadRule, HEADER_ROOM, PAGE_ROOM, PAYLOAD_ROOM};
+use super::frame::{PayloadRule, HEADER_ROOM, PAYLOAD_ROOM};
+use super::inputs::PAGE_ROOM;
+use super::sheets::{put_sheet, take_sheet};
 use super::Kind;
 use crate::air::AIR_BITS;
 use crate::crc::crc13;
@@ -9,7 +11,7 @@ use crate::frame::read_frame;
 use crate::header::{flown_crc5, read_header, write_header, Heard, FIELDS, GIVEN};
 use crate::page::{read_page, write_page, Page, ROWS};
 use crate::refusal::Refusal;
-use crate::sheet::{Sheet, Source};
+use crate::rules::Rules;
 use crate::shown::Scaling;
 use crate::word::{encode, repair};
 
@@ -50,11 +52,15 @@ pub(super) fn reply(kind: Kind, input: &[u8]) -> Vec<u8> {
                 .fold(0, |bits, &bit| bits << 1 | u128::from(bit % 2));
             put(&mut out, 1, flown_crc5(bits << 5));
         }
-        Kind::Headers => heard_reply(read_header(input.sized(HEADER_ROOM)), &mut out),
+        Kind::Headers => {
+            let rules = take_rules(&mut input);
+            heard_reply(read_header(rules, input.sized(HEADER_ROOM)), &mut out);
+        }
         Kind::Writes => write_reply(&mut input, &mut out),
         Kind::Frames => {
+            let rules = take_rules(&mut input);
             let air = input.sized(HEADER_ROOM);
-            heard_reply(read_frame(air, &payload(&mut input)), &mut out);
+            heard_reply(read_frame(rules, air, &payload(&mut input)), &mut out);
         }
         Kind::Pages => match read_page(input.sized(PAGE_ROOM)) {
             Ok(page) => page_reply(&page, &mut out),
@@ -67,6 +73,11 @@ pub(super) fn reply(kind: Kind, input: &[u8]) -> Vec<u8> {
     }
     out.resize(kind.reply_bytes(), 0);
     out
+}
+
+/// How a frame is read.
+fn take_rules(input: &mut Bytes) -> Rules {
+    Rules { limit: input.u32() }
 }
 
 /// The payload of a payload rule.
@@ -189,32 +200,11 @@ fn shown_reply(input: &mut Bytes, out: &mut Vec<u8>) {
 }
 
 fn sheet_reply(input: &mut Bytes, out: &mut Vec<u8>) {
-    let mut sheet = Sheet::new();
-    for source in &mut sheet.sources {
-        *source = Source {
-            accepted: input.u32(),
-            repaired: input.u32(),
-            missed: input.u32(),
-            repeats: input.u32(),
-            last: None,
-        };
-        let (heard, last) = (input.u8(), input.u8());
-        source.last = (heard == 1).then_some(last);
-    }
-    sheet.refused.fill_with(|| input.u32());
+    let rules = take_rules(input);
+    let mut sheet = take_sheet(input);
     let air = input.take(AIR_BITS);
-    heard_reply(sheet.offer(air, &payload(input)), out);
+    heard_reply(sheet.offer(rules, air, &payload(input)), out);
     // beside a refusal the fields of a header and the patterns are zeros
     out.resize(Kind::Headers.reply_bytes(), 0);
-    for source in &sheet.sources {
-        put(out, 4, source.accepted);
-        put(out, 4, source.repaired);
-        put(out, 4, source.missed);
-        put(out, 4, source.repeats);
-        put(out, 1, source.last.is_some());
-        put(out, 1, source.last.unwrap_or(0));
-    }
-    for count in sheet.refused {
-        put(out, 4, count);
-    }
+    put_sheet(&sheet, out);
 }

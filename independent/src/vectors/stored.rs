@@ -29,11 +29,11 @@ const SHARES: [(Kind, Share); 11] = [
     (Kind::Crc5, one_of(5, 0)),
     (Kind::Headers, one_of(5, 128)),
     (Kind::Writes, one_of(5, 16)),
-    (Kind::Frames, one_of(5, 16)),
-    (Kind::Pages, one_of(13, 8)),
+    (Kind::Frames, one_of(11, 16)),
+    (Kind::Pages, one_of(23, 8)),
     (Kind::Rows, one_of(3, 34)),
     (Kind::Shown, one_of(41, 1)),
-    (Kind::Sheets, one_of(5, 8)),
+    (Kind::Sheets, one_of(13, 8)),
 ];
 
 const fn one_of(every: usize, places: usize) -> Share {
@@ -94,7 +94,7 @@ fn is_limit(kind: Kind, input: &[u8]) -> bool {
         Kind::Crc5 => [0, 1, 64, 65].contains(&input.iter().filter(|&&bit| bit == 1).count()),
         // The writer's payload lengths; 62 is that of fields at and over their limits.
         Kind::Writes => [0, 62, longest, longest + 1].contains(&two(16)),
-        Kind::Frames => [0, longest, longest + 1].contains(&two(258)),
+        Kind::Frames => [0, longest, longest + 1].contains(&two(262)),
         // Around 8 and 12 bytes, 34 user bytes without and with a time tag, the longest payload, the
         // most user bytes without and with a time tag.
         Kind::Pages => {

@@ -1,9 +1,12 @@
 -- `header::reading::judge` meets its contract: the tests passed say which row is the first that applies.
 -- Assumes nothing.
 use borrow.Author.Needs.{needs}
-use Rattle.header.proofs.Judging.{gives-4, gives-5, gives-6, reads}
+use Rattle.header.proofs.Judging.{gives-21, gives-4, gives-5, gives-6, reads}
 use Rattle.header.proofs.reading.judge.Statement.{statement}
 use Rattle.header.proofs.reading.judge.Tie as tie
+
+returns : tie.Need-returns
+returns c = search (needs, gives-21)
 
 unpack-requires : tie.Need-unpack-requires
 unpack-requires c κs = search needs
@@ -11,37 +14,38 @@ unpack-requires c κs = search needs
 crc5-requires : tie.Need-crc5-requires
 crc5-requires c κs = search needs
 
-cast-t9 : tie.Need-cast-t9
-cast-t9 c = search needs
-
-returns : tie.Need-returns
-returns c = search (needs, gives-4)
-
-cast-t11 : tie.Need-cast-t11
-cast-t11 c = search needs
+cast-t12 : tie.Need-cast-t12
+cast-t12 c = search needs
 
 returns-2 : tie.Need-returns-2
-returns-2 c = search (needs, gives-5)
+returns-2 c = search (needs, gives-4)
 
-cast-t13 : tie.Need-cast-t13
-cast-t13 c = search needs
+cast-t14 : tie.Need-cast-t14
+cast-t14 c = search needs
 
 returns-3 : tie.Need-returns-3
-returns-3 c = search (needs, gives-6)
+returns-3 c = search (needs, gives-5)
+
+cast-t16 : tie.Need-cast-t16
+cast-t16 c = search needs
 
 returns-4 : tie.Need-returns-4
-returns-4 c = search (needs, reads)
+returns-4 c = search (needs, gives-6)
+
+returns-5 : tie.Need-returns-5
+returns-5 c = search (needs, reads)
 
 pub judge-spec : {M : Type 1} → statement M
 judge-spec =
     tie.close
     (tie.spec
+    returns
     unpack-requires
     crc5-requires
-    cast-t9
-    returns
-    cast-t11
+    cast-t12
     returns-2
-    cast-t13
+    cast-t14
     returns-3
-    returns-4)
+    cast-t16
+    returns-4
+    returns-5)

@@ -1,4 +1,4 @@
--- `header::reading::read_bits` meets its contract: row 3, or what rows 4 to 6 say of the repaired words.
+-- `header::reading::read_bits` meets its contract: row 3, or what the later rows say of the repaired words.
 -- Assumes nothing.
 use borrow.Author.Needs.{needs}
 use Rattle.header.proofs.Rows.{gives-3, repaired, leaves}

@@ -1,0 +1,180 @@
+//! Frames in records: how they are read, their header slices and their payloads.
+
+use super::sheets::put_sheet;
+use super::Kind;
+use crate::air::{AIR_BITS, WORDS};
+use crate::header::{largest, Field, Header, GIVEN};
+use crate::rng::Rng;
+use crate::rules::{Rules, LARGEST_LIMIT};
+use crate::sample::{flip_pattern, flip_some, seal};
+use crate::sheet::Sheet;
+
+/// Room for a header slice in a record.
+pub(super) const HEADER_ROOM: usize = 256;
+
+/// The longest payload of a payload rule.
+pub(super) const PAYLOAD_ROOM: usize = 2_047;
+
+/// The rules that refuse no frame for its flips.
+pub(super) const WIDEST: Rules = Rules {
+    limit: LARGEST_LIMIT,
+};
+
+/// A word pattern that is beyond repair from every valid word: it is at distance 4 of word 0, and within 3 of none.
+pub(super) const BEYOND: u16 = 0x000F;
+
+/// A payload that is told by its length, its first byte and the step to the next.
+#[derive(Clone, Copy)]
+pub(super) struct PayloadRule {
+    pub length: u16,
+    pub start: u8,
+    pub step: u8,
+}
+
+impl PayloadRule {
+    pub fn chance(rng: &mut Rng, length: usize) -> PayloadRule {
+        let [start, step] = (rng.below(65_536) as u16).to_be_bytes();
+        PayloadRule {
+            length: length as u16,
+            start,
+            step,
+        }
+    }
+
+    /// The rule of a short payload.
+    pub fn short(rng: &mut Rng) -> PayloadRule {
+        let length = rng.below(80) as usize;
+        PayloadRule::chance(rng, length)
+    }
+
+    pub fn payload(&self) -> Vec<u8> {
+        (0..self.length)
+            .map(|k| self.start.wrapping_add(self.step.wrapping_mul(k as u8)))
+            .collect()
+    }
+
+    pub fn bytes(&self) -> [u8; 4] {
+        let [high, low] = self.length.to_be_bytes();
+        [high, low, self.start, self.step]
+    }
+}
+
+/// The length in two bytes, then the bytes, then zeros up to so many bytes.
+pub(super) fn sized(bytes: &[u8], room: usize) -> Vec<u8> {
+    let mut record = (bytes.len() as u16).to_be_bytes().to_vec();
+    record.extend(bytes);
+    record.resize(2 + room, 0);
+    record
+}
+
+/// How a frame is read, its header slice and the payload that comes with it.
+#[derive(Clone)]
+pub(super) struct Frame {
+    pub rules: Rules,
+    pub slice: Vec<u8>,
+    pub rule: PayloadRule,
+}
+
+impl Frame {
+    /// The input of a kind with this frame, which a new sheet is offered in `sheets`; a record of that kind has 210 header bytes.
+    pub fn input(&self, kind: Kind) -> Option<Vec<u8>> {
+        match kind {
+            Kind::Headers => Some(self.header_input()),
+            Kind::Frames => Some(self.frame_input()),
+            Kind::Sheets => self.sheet_input(&Sheet::new()),
+            _ => None,
+        }
+    }
+
+    pub fn header_input(&self) -> Vec<u8> {
+        let mut record = rules_bytes(self.rules);
+        record.extend(sized(&self.slice, HEADER_ROOM));
+        record
+    }
+
+    pub fn frame_input(&self) -> Vec<u8> {
+        let mut record = self.header_input();
+        record.extend(self.rule.bytes());
+        record
+    }
+
+    /// The frame offered to this sheet; none where its slice is not 210 long.
+    pub fn sheet_input(&self, sheet: &Sheet) -> Option<Vec<u8>> {
+        let air = <&[u8; AIR_BITS]>::try_from(self.slice.as_slice()).ok()?;
+        let mut record = rules_bytes(self.rules);
+        put_sheet(sheet, &mut record);
+        record.extend(air);
+        record.extend(self.rule.bytes());
+        Some(record)
+    }
+}
+
+fn rules_bytes(rules: Rules) -> Vec<u8> {
+    rules.limit.to_be_bytes().to_vec()
+}
+
+/// A header in range with the payload's length and checksum, and a right CRC5.
+pub(super) fn fresh_header(rng: &mut Rng, payload: &[u8]) -> Header {
+    let mut header = Header::default();
+    for field in 0..GIVEN {
+        header.values[field] = rng.within(0..=u32::from(largest(field))) as u16;
+    }
+    seal(&mut header, payload);
+    header
+}
+
+/// One to three flips in about every third word.
+pub(super) fn light_damage(rng: &mut Rng, air: &mut [u8; AIR_BITS]) {
+    for word in 0..WORDS {
+        if rng.one_in(3) {
+            let count = rng.within(1..=3);
+            flip_some(rng, air, word, count);
+        }
+    }
+}
+
+/// A frame with these flip patterns, of a header that would be accepted without a limit.
+pub(super) fn damaged(rng: &mut Rng, rules: Rules, patterns: &[u16; WORDS]) -> Frame {
+    let rule = PayloadRule::short(rng);
+    let mut air = fresh_header(rng, &rule.payload()).to_air();
+    for (word, &pattern) in patterns.iter().enumerate() {
+        flip_pattern(&mut air, word, pattern);
+    }
+    let slice = air.to_vec();
+    Frame { rules, slice, rule }
+}
+
+/// A frame that is refused with this number of 1 to 8, unless the limit refuses it before. Every word is damaged, and
+/// within repair but for one of refusal 3: there would be patterns to give.
+pub(super) fn refused(rng: &mut Rng, rules: Rules, number: u8) -> Frame {
+    let mut rule = PayloadRule::short(rng);
+    let mut header = fresh_header(rng, &rule.payload());
+    match number {
+        5 => header[Field::SrcId] = rng.within(8..=127) as u16,
+        6 => header[Field::AiTypeSrc] = rng.within(4..=15) as u16,
+        7 => rule.length += rng.within(1..=80) as u16,
+        8 => header[Field::Crc13] ^= rng.within(1..=0x1FFF) as u16,
+        _ => {}
+    }
+    header[Field::Crc5] = header.crc5();
+    if number == 4 {
+        header[Field::Crc5] ^= rng.within(1..=31) as u16;
+    }
+    let mut air = header.to_air();
+    let beyond = rng.below(WORDS as u32) as usize;
+    for word in 0..WORDS {
+        if number == 3 && word == beyond {
+            flip_pattern(&mut air, word, BEYOND);
+        } else {
+            let count = rng.within(1..=3);
+            flip_some(rng, &mut air, word, count);
+        }
+    }
+    let mut slice = air.to_vec();
+    match number {
+        1 => slice.resize(AIR_BITS + rng.within(1..=40) as usize, 0),
+        2 => slice[rng.below(AIR_BITS as u32) as usize] |= 2,
+        _ => {}
+    }
+    Frame { rules, slice, rule }
+}

@@ -1,0 +1,129 @@
+//! Sheets in records and replies, and the mixture of `sheets`.
+
+use super::bytes::{put, Bytes};
+use super::frame::{fresh_header, light_damage, Frame, PayloadRule};
+use crate::air::AIR_BITS;
+use crate::header::{Field, FIELDS, WIDTHS};
+use crate::rng::Rng;
+use crate::rules::{Rules, LARGEST_LIMIT, USUAL_LIMIT};
+use crate::sample::flip_some;
+use crate::sheet::{Sheet, Source, COUNTS, FULL, SOURCES};
+
+/// Puts a sheet: its sources, then its counts.
+pub(super) fn put_sheet(sheet: &Sheet, out: &mut Vec<u8>) {
+    for source in &sheet.sources {
+        put(out, 4, source.accepted);
+        put(out, 4, source.repaired);
+        put(out, 4, source.missed);
+        put(out, 4, source.repeats);
+        put(out, 1, source.last.is_some());
+        put(out, 1, source.last.unwrap_or(0));
+    }
+    for count in sheet.refused {
+        put(out, 4, count);
+    }
+}
+
+/// The sheet of a record.
+pub(super) fn take_sheet(input: &mut Bytes) -> Sheet {
+    let mut sheet = Sheet::new();
+    for source in &mut sheet.sources {
+        *source = Source {
+            accepted: input.u32(),
+            repaired: input.u32(),
+            missed: input.u32(),
+            repeats: input.u32(),
+            last: None,
+        };
+        let (heard, last) = (input.u8(), input.u8());
+        source.last = (heard == 1).then_some(last);
+    }
+    sheet.refused.fill_with(|| input.u32());
+    sheet
+}
+
+/// Sheets of five sorts: new, small, about to be full by so many, with counts at their limit, and with sums past 32 bits.
+fn made_up(rng: &mut Rng) -> Sheet {
+    let mut sheet = Sheet::new();
+    let sort = rng.below(5);
+    if sort == 0 {
+        return sheet;
+    }
+    for source in &mut sheet.sources {
+        *source = Source {
+            accepted: rng.below(1_000),
+            repaired: rng.below(1_000),
+            missed: rng.below(1_000),
+            repeats: rng.below(1_000),
+            last: match rng.below(8) {
+                0 => None,
+                1 => Some(rng.below(256) as u8),
+                _ => Some(rng.below(16) as u8),
+            },
+        };
+    }
+    sheet.refused.fill_with(|| rng.below(1_000));
+    match sort {
+        2 => {
+            let total = FULL as u32 + rng.below(4) - 2;
+            let count = rng.below(COUNTS as u32) as usize;
+            sheet.refused[count] = 0;
+            sheet.refused[count] = total - sheet.offered() as u32;
+        }
+        3 => {
+            for source in &mut sheet.sources {
+                source.repaired = u32::MAX - rng.below(20);
+                source.missed = u32::MAX - rng.below(20);
+                source.repeats = u32::MAX - rng.below(20);
+            }
+        }
+        4 => {
+            sheet.sources[rng.below(SOURCES as u32) as usize].accepted = u32::MAX;
+            sheet.refused[rng.below(COUNTS as u32) as usize] = u32::MAX;
+        }
+        _ => {}
+    }
+    sheet
+}
+
+/// Made-up sheets, each offered a frame that is accepted about three times in five.
+pub(super) fn inputs(rng: &mut Rng) -> Vec<Vec<u8>> {
+    let mut inputs = Vec::new();
+    for _ in 0..2_000 {
+        let sheet = made_up(rng);
+        let frame = offered(rng);
+        inputs.extend(frame.sheet_input(&sheet));
+    }
+    inputs
+}
+
+/// A frame with at most one thing wrong, under limits that are named in earnest and some that are not.
+fn offered(rng: &mut Rng) -> Frame {
+    let rule = PayloadRule::short(rng);
+    let mut header = fresh_header(rng, &rule.payload());
+    // 4 to 8 by one field that is not as it should be; most fields may be anything
+    if rng.one_in(4) {
+        let field = rng.below(FIELDS as u32) as usize;
+        header.values[field] ^= rng.within(1..=(1 << WIDTHS[field]) - 1) as u16;
+        if field != Field::Crc5 as usize {
+            header[Field::Crc5] = header.crc5();
+        }
+    }
+    let mut air = header.to_air();
+    light_damage(rng, &mut air);
+    match rng.below(16) {
+        0 => flip_some(rng, &mut air, 5, 7),
+        1 => air[rng.below(AIR_BITS as u32) as usize] = 2,
+        _ => {}
+    }
+    let limit = match rng.below(8) {
+        0 => rng.below(50),
+        1..=3 => USUAL_LIMIT,
+        _ => LARGEST_LIMIT,
+    };
+    Frame {
+        rules: Rules { limit },
+        slice: air.to_vec(),
+        rule,
+    }
+}

@@ -1,0 +1,14 @@
+//! Inputs that tell right from wrong where the mixture of a kind has few that do. They stand at its end.
+
+mod limits;
+mod patterns;
+
+use super::Kind;
+use crate::rng::Rng;
+
+/// The telling inputs of a kind; most kinds have none.
+pub(super) fn inputs(kind: Kind, seed: u64) -> Vec<Vec<u8>> {
+    let mut inputs = patterns::inputs(kind, &mut Rng::new(seed));
+    inputs.extend(limits::inputs(kind, &mut Rng::new(seed)));
+    inputs
+}
