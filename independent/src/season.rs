@@ -140,16 +140,20 @@ struct Season {
     payload: Option<usize>,
     clean: bool,
     short: bool,
-    /// The frame counter of each source; a frame that is refused uses one up too.
-    counters: [u32; SOURCES],
+    /// "One frame counter as caller and another as responder", for each source: that of the Caller bit 0 stands first. A
+    /// frame that is refused uses one up too.
+    counters: [[u32; 2]; SOURCES],
     last: Option<Record>,
 }
 
 impl Season {
     fn new(options: &Options) -> Season {
         let mut rng = Rng::new(options.seed);
-        let mut counters = [0; SOURCES];
-        counters.fill_with(|| rng.below(16));
+        let mut counters = [[0; 2]; SOURCES];
+        counters.fill_with(|| {
+            let both = rng.below(16 * 16);
+            [both % 16, both / 16]
+        });
         Season {
             rng,
             payload: options.payload,
@@ -229,7 +233,8 @@ impl Season {
             header.values[field] = self.rng.within(0..=u32::from(largest(field))) as u16;
         }
         // Most frames follow the one before them; some repeat its counter, some leave a gap.
-        let counter = &mut self.counters[usize::from(header[Field::SrcId])];
+        let lanes = &mut self.counters[usize::from(header[Field::SrcId])];
+        let counter = &mut lanes[usize::from(header[Field::Caller])];
         *counter += match self.rng.below(20) {
             0 => 0,
             1 => self.rng.within(2..=15),

@@ -20,9 +20,9 @@ pub const FULL: usize = 65_535;
 /// Frame counters "wrap from 15 to 0".
 const COUNTER_VALUES: u8 = 16;
 
-/// What the sheet keeps of one source.
+/// What the sheet keeps of one lane of a source.
 #[derive(Clone, Copy, Debug, Default, PartialEq, Eq)]
-pub struct Source {
+pub struct Lane {
     /// Frames accepted.
     pub accepted: u32,
     /// Bits repaired.
@@ -35,7 +35,7 @@ pub struct Source {
     pub last: Option<u8>,
 }
 
-impl Source {
+impl Lane {
     /// Adds an accepted frame. "A count that would pass 4,294,967,295 stays there."
     fn accept(&mut self, fr_cnt_tx: u8, flips: u32) {
         self.accepted = self.accepted.saturating_add(1);
@@ -50,6 +50,36 @@ impl Source {
             }
         }
         self.last = Some(fr_cnt_tx);
+    }
+}
+
+/// What the sheet keeps of one source: "two lanes by the Caller bit".
+#[derive(Clone, Copy, Debug, Default, PartialEq, Eq)]
+pub struct Source {
+    /// What it sent as caller, with the Caller bit 1.
+    pub caller: Lane,
+    /// What it sent as responder, with the Caller bit 0.
+    pub responder: Lane,
+}
+
+impl Source {
+    /// The lane of a frame with this Caller bit.
+    fn lane(&mut self, caller: u16) -> &mut Lane {
+        if caller == 1 {
+            &mut self.caller
+        } else {
+            &mut self.responder
+        }
+    }
+
+    /// Frames accepted; "accepted and repaired stay per lane and are added for display". The sum is exact.
+    pub fn accepted(&self) -> u64 {
+        u64::from(self.caller.accepted) + u64::from(self.responder.accepted)
+    }
+
+    /// Bits repaired, in both lanes.
+    pub fn repaired(&self) -> u64 {
+        u64::from(self.caller.repaired) + u64::from(self.responder.repaired)
     }
 }
 
@@ -68,9 +98,14 @@ impl Sheet {
         Sheet::default()
     }
 
+    /// The numbers of a source for display. Any number may be handed in: one without a record was never heard.
+    pub fn source(&self, number: usize) -> Source {
+        self.sources.get(number).copied().unwrap_or_default()
+    }
+
     /// Frames accepted over all sources.
     pub fn accepted_total(&self) -> u64 {
-        self.sources.iter().map(|s| u64::from(s.accepted)).sum()
+        self.sources.iter().map(Source::accepted).sum()
     }
 
     /// Frames refused over all numbers.
@@ -105,8 +140,9 @@ impl Sheet {
         match &answer {
             Ok(heard) => {
                 let source = &mut self.sources[usize::from(heard.header[Field::SrcId])];
+                let lane = source.lane(heard.header[Field::Caller]);
                 // FrCntTx has four bits.
-                source.accept(heard.header[Field::FrCntTx] as u8, heard.flips());
+                lane.accept(heard.header[Field::FrCntTx] as u8, heard.flips());
             }
             Err(refusal) => self.refuse(refusal.number),
         }
@@ -119,13 +155,13 @@ mod tests {
     use super::*;
     use crate::rules::usual;
 
-    /// A source after frames with these counters and no flips.
-    fn after(counters: &[u8]) -> Source {
-        let mut source = Source::default();
+    /// A lane after frames with these counters and no flips.
+    fn after(counters: &[u8]) -> Lane {
+        let mut lane = Lane::default();
         for &counter in counters {
-            source.accept(counter, 0);
+            lane.accept(counter, 0);
         }
-        source
+        lane
     }
 
     #[test]
@@ -136,58 +172,58 @@ mod tests {
 
     #[test]
     fn first_frame_misses_nothing() {
-        let first = Source {
+        let first = Lane {
             accepted: 1,
             last: Some(9),
-            ..Source::default()
+            ..Lane::default()
         };
         assert_eq!(after(&[9]), first);
     }
 
     #[test]
     fn a_repeat_is_no_miss() {
-        let source = after(&[9, 9, 9, 10]);
-        assert_eq!((source.accepted, source.repeats, source.missed), (4, 2, 0));
+        let lane = after(&[9, 9, 9, 10]);
+        assert_eq!((lane.accepted, lane.repeats, lane.missed), (4, 2, 0));
     }
 
     #[test]
     fn every_pair_of_counters() {
         for last in 0..16 {
             for new in 0..16 {
-                let source = after(&[last, new]);
+                let lane = after(&[last, new]);
                 let steps = (0..16).find(|s| (last + s) % 16 == new).unwrap();
-                assert_eq!(source.repeats, u32::from(steps == 0));
-                assert_eq!(source.missed, u32::from(steps.max(1) - 1));
-                assert_eq!(source.last, Some(new));
+                assert_eq!(lane.repeats, u32::from(steps == 0));
+                assert_eq!(lane.missed, u32::from(steps.max(1) - 1));
+                assert_eq!(lane.last, Some(new));
             }
         }
     }
 
     #[test]
     fn made_up_counts_stay_at_the_largest() {
-        let mut source = Source {
+        let mut lane = Lane {
             accepted: u32::MAX,
             repaired: u32::MAX - 2,
             missed: u32::MAX - 1,
             repeats: u32::MAX,
             last: Some(3),
         };
-        source.accept(3, 1);
-        assert_eq!((source.accepted, source.repeats), (u32::MAX, u32::MAX));
-        assert_eq!(source.repaired, u32::MAX - 1);
-        source.accept(0, 42);
-        assert_eq!((source.repaired, source.missed), (u32::MAX, u32::MAX));
+        lane.accept(3, 1);
+        assert_eq!((lane.accepted, lane.repeats), (u32::MAX, u32::MAX));
+        assert_eq!(lane.repaired, u32::MAX - 1);
+        lane.accept(0, 42);
+        assert_eq!((lane.repaired, lane.missed), (u32::MAX, u32::MAX));
     }
 
     #[test]
     fn made_up_last_counters_are_equal_as_they_stand() {
         let step = |last, new| {
-            let mut source = Source {
+            let mut lane = Lane {
                 last: Some(last),
-                ..Source::default()
+                ..Lane::default()
             };
-            source.accept(new, 0);
-            (source.repeats, source.missed)
+            lane.accept(new, 0);
+            (lane.repeats, lane.missed)
         };
         assert_eq!(step(21, 5), (0, 15));
         assert_eq!(step(16, 1), (0, 0));
@@ -198,16 +234,51 @@ mod tests {
     #[test]
     fn a_made_up_sheet_is_full_by_its_exact_sum() {
         let mut sheet = Sheet::new();
-        sheet.sources[2].accepted = 65_000;
+        sheet.sources[2].caller.accepted = 1;
+        sheet.sources[2].responder.accepted = 64_999;
         sheet.refused[7] = 534;
         assert!(!sheet.is_full());
         sheet.refused[0] = 1;
         assert!(sheet.is_full());
-        sheet.sources.iter_mut().for_each(|s| s.accepted = u32::MAX);
+        for source in &mut sheet.sources {
+            source.caller.accepted = u32::MAX;
+            source.responder.accepted = u32::MAX;
+        }
         sheet.refused = [u32::MAX; COUNTS];
-        assert_eq!(sheet.offered(), 18 * u64::from(u32::MAX));
+        assert_eq!(sheet.offered(), 26 * u64::from(u32::MAX));
         let before = sheet.clone();
         assert_eq!(sheet.offer(usual(), &[], &[]), Err(Refusal::new(17, FULL)));
         assert_eq!(sheet, before);
+    }
+
+    #[test]
+    fn a_source_is_shown_with_exact_sums_over_its_lanes() {
+        let mut sheet = Sheet::new();
+        let lane = |accepted, repaired| Lane {
+            accepted,
+            repaired,
+            ..Lane::default()
+        };
+        sheet.sources[7] = Source {
+            caller: lane(u32::MAX, 3),
+            responder: lane(2, u32::MAX),
+        };
+        let shown = sheet.source(7);
+        assert_eq!(shown, sheet.sources[7]);
+        assert_eq!(shown.accepted(), u64::from(u32::MAX) + 2);
+        assert_eq!(shown.repaired(), u64::from(u32::MAX) + 3);
+    }
+
+    #[test]
+    fn a_source_without_a_record_was_never_heard() {
+        let mut sheet = Sheet::new();
+        for source in &mut sheet.sources {
+            source.caller.accept(4, 1);
+            source.responder.accept(5, 2);
+        }
+        for number in [8, 9, 127, 128, 255, usize::MAX] {
+            assert_eq!(sheet.source(number), Source::default());
+        }
+        assert_eq!(sheet.source(0).caller.last, Some(4));
     }
 }

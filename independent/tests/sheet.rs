@@ -6,19 +6,25 @@ use independent::refusal::Refusal;
 use independent::rng::Rng;
 use independent::rules::{usual, Rules};
 use independent::sample::{burst, flip_pattern, seal};
-use independent::sheet::{Sheet, Source, FULL};
+use independent::sheet::{Lane, Sheet, Source, FULL};
 
-/// A frame without payload.
+/// A frame of a responder, without payload.
 fn frame(src_id: u16, fr_cnt_tx: u16) -> [u8; AIR_BITS] {
+    frame_of(src_id, 0, fr_cnt_tx)
+}
+
+/// A frame without payload, with this Caller bit.
+fn frame_of(src_id: u16, caller: u16, fr_cnt_tx: u16) -> [u8; AIR_BITS] {
     let mut header = Header::default();
     header[Field::SrcId] = src_id;
+    header[Field::Caller] = caller;
     header[Field::FrCntTx] = fr_cnt_tx;
     seal(&mut header, &[]);
     header.to_air()
 }
 
 #[test]
-fn accepted_frames_touch_their_source_alone() {
+fn accepted_frames_touch_their_lane_alone() {
     let mut sheet = Sheet::new();
     for (src_id, fr_cnt_tx) in [(0, 14), (5, 3), (0, 1), (5, 3), (0, 1), (5, 2)] {
         let mut air = frame(src_id, fr_cnt_tx);
@@ -29,14 +35,14 @@ fn accepted_frames_touch_their_source_alone() {
         assert_eq!((heard.flips(), heard.worst()), (2, 2));
     }
     let mut expected = Sheet::new();
-    expected.sources[0] = Source {
+    expected.sources[0].responder = Lane {
         accepted: 3,
         repaired: 6,
         missed: 2,
         repeats: 1,
         last: Some(1),
     };
-    expected.sources[5] = Source {
+    expected.sources[5].responder = Lane {
         accepted: 3,
         repaired: 6,
         missed: 14,
@@ -88,7 +94,7 @@ fn refused_frames_touch_no_source() {
     assert_eq!(sheet.offered(), 9);
     // Counter 9 was only ever refused: from 4 to 5 nothing is missed.
     sheet.offer(usual(), &frame(1, 5), &[]).unwrap();
-    assert_eq!(sheet.sources[1].missed, 0);
+    assert_eq!(sheet.sources[1].responder.missed, 0);
 }
 
 /// A frame with 29 flips, one more than are believed where no limit is named.
@@ -119,7 +125,7 @@ fn limits_are_counted_and_are_in_the_total() {
     assert_eq!(sheet.sources, Sheet::new().sources);
     // The limit is the offer's, not the sheet's.
     let heard = sheet.offer(limit(29), &faded(3, 1), &[]).unwrap();
-    assert_eq!((heard.flips(), sheet.sources[3].repaired), (29, 29));
+    assert_eq!((heard.flips(), sheet.source(3).repaired()), (29, 29));
     assert_eq!((sheet.offered(), sheet.accepted_total()), (4, 1));
 }
 
@@ -191,7 +197,7 @@ fn accepted_and_refused_are_the_history() {
 #[test]
 fn made_up_counts_stay_at_the_largest() {
     let mut sheet = Sheet::new();
-    sheet.sources[2] = Source {
+    sheet.sources[2].responder = Lane {
         accepted: 65_533,
         repaired: u32::MAX,
         missed: u32::MAX - 1,
@@ -202,13 +208,140 @@ fn made_up_counts_stay_at_the_largest() {
     flip_pattern(&mut air, 0, 1);
     sheet.offer(usual(), &air, &[]).unwrap();
     sheet.offer(usual(), &frame(2, 12), &[]).unwrap();
-    let expected = Source {
+    let expected = Lane {
         accepted: 65_535,
         repaired: u32::MAX,
         missed: u32::MAX,
         repeats: u32::MAX,
         last: Some(12),
     };
-    assert_eq!(sheet.sources[2], expected);
+    assert_eq!(sheet.sources[2].responder, expected);
+    assert_eq!(sheet.sources[2].caller, Lane::default());
     assert_eq!(sheet.offer(usual(), &air, &[]), Err(Refusal::new(17, FULL)));
+}
+
+#[test]
+fn the_caller_bit_names_the_lane() {
+    for src_id in 0..8 {
+        for (caller, fr_cnt_tx) in [(1, 6), (0, 11)] {
+            let mut sheet = Sheet::new();
+            sheet
+                .offer(usual(), &frame_of(src_id, caller, fr_cnt_tx), &[])
+                .unwrap();
+            let heard = Lane {
+                accepted: 1,
+                last: Some(fr_cnt_tx as u8),
+                ..Lane::default()
+            };
+            let mut expected = Sheet::new();
+            expected.sources[usize::from(src_id)] = if caller == 1 {
+                Source {
+                    caller: heard,
+                    responder: Lane::default(),
+                }
+            } else {
+                Source {
+                    caller: Lane::default(),
+                    responder: heard,
+                }
+            };
+            assert_eq!(sheet, expected);
+        }
+    }
+}
+
+#[test]
+fn a_radio_keeps_one_frame_counter_as_caller_and_another_as_responder() {
+    let mut sheet = Sheet::new();
+    // 3, 4, 6 as caller; 4, 4, 5 as responder: one is missed there, one repeated here, and nothing else.
+    for (caller, fr_cnt_tx) in [(1, 3), (0, 4), (1, 4), (0, 4), (1, 6), (0, 5)] {
+        let mut air = frame_of(2, caller, fr_cnt_tx);
+        burst(&mut air, 0, 1 + usize::from(caller));
+        sheet.offer(usual(), &air, &[]).unwrap();
+    }
+    let source = Source {
+        caller: Lane {
+            accepted: 3,
+            repaired: 6,
+            missed: 1,
+            repeats: 0,
+            last: Some(6),
+        },
+        responder: Lane {
+            accepted: 3,
+            repaired: 3,
+            missed: 0,
+            repeats: 1,
+            last: Some(5),
+        },
+    };
+    assert_eq!(sheet.source(2), source);
+    assert_eq!((source.accepted(), source.repaired()), (6, 9));
+    assert_eq!((sheet.accepted_total(), sheet.offered()), (6, 6));
+}
+
+/// A lane of a source: the source, and its Caller bit.
+type LaneOf = (u16, u16);
+
+/// A frame by chance, some of them damaged beyond repair, and the lane that it names.
+fn any_frame(rng: &mut Rng) -> (LaneOf, [u8; AIR_BITS]) {
+    let lane = (rng.below(8) as u16, rng.below(2) as u16);
+    let mut air = frame_of(lane.0, lane.1, rng.below(16) as u16);
+    flip_pattern(
+        &mut air,
+        0,
+        [0x0000, 0x0001, 0x4001, 0x000F][rng.below(4) as usize],
+    );
+    (lane, air)
+}
+
+#[test]
+fn a_lanes_numbers_depend_on_that_lanes_accepted_frames_only() {
+    let mut rng = Rng::new(19);
+    let history: Vec<_> = (0..3_000).map(|_| any_frame(&mut rng)).collect();
+    let mut whole = Sheet::new();
+    let mut accepted = Vec::new();
+    for (lane, air) in &history {
+        if whole.offer(usual(), air, &[]).is_ok() {
+            accepted.push((*lane, air));
+        }
+    }
+    for src_id in 0..8 {
+        for caller in [0, 1] {
+            let mut alone = Sheet::new();
+            for (lane, air) in &accepted {
+                if *lane == (src_id, caller) {
+                    alone.offer(usual(), &air[..], &[]).unwrap();
+                }
+            }
+            let of = |sheet: &Sheet| {
+                let source = sheet.source(src_id.into());
+                if caller == 1 {
+                    source.caller
+                } else {
+                    source.responder
+                }
+            };
+            assert_eq!(of(&whole), of(&alone));
+            assert!(of(&whole).missed > 0 && of(&whole).repeats > 0);
+        }
+    }
+}
+
+#[test]
+fn frames_of_both_lanes_fill_a_sheet() {
+    for (of_caller, of_responder) in [(65_534, 0), (0, 65_534), (30_000, 35_534)] {
+        for caller in [0, 1] {
+            let mut sheet = Sheet::new();
+            sheet.sources[5].caller.accepted = of_caller;
+            sheet.sources[5].responder.accepted = of_responder;
+            let air = frame_of(5, caller, 0);
+            assert!(sheet.offer(usual(), &air, &[]).is_ok());
+            let full = sheet.clone();
+            let answer = sheet.offer(usual(), &air, &[]);
+            assert_eq!(answer, Err(Refusal::new(17, FULL)));
+            assert_eq!(sheet, full);
+            assert_eq!(sheet.source(5).accepted(), 65_535);
+        }
+    }
 }

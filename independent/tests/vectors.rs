@@ -2,6 +2,7 @@
 
 use std::array;
 use std::collections::BTreeSet;
+use std::sync::OnceLock;
 
 use independent::air::WORDS;
 use independent::vectors::{
@@ -32,9 +33,12 @@ fn lines(kind: Kind) -> Vec<String> {
     text.lines().map(String::from).collect()
 }
 
+/// The kinds but for `stored`.
+const OTHERS: usize = 12;
+
 /// The size of a record of each kind, and of a reply.
-const SIZES: [usize; 11] = [2, 1, 2_049, 65, 262, 20, 266, 1_102, 36, 20, 402];
-const REPLY_SIZES: [usize; 11] = [12, 3, 4, 1, 60, 267, 60, 80, 75, 17, 244];
+const SIZES: [usize; OTHERS] = [2, 1, 2_049, 65, 262, 20, 266, 1_102, 36, 20, 546, 329];
+const REPLY_SIZES: [usize; OTHERS] = [12, 3, 4, 1, 60, 267, 60, 80, 75, 17, 388, 52];
 
 #[test]
 fn every_input_has_its_size_its_reply_and_its_line() {
@@ -171,8 +175,13 @@ fn vectors(kind: Kind) -> Vec<Vector> {
 }
 
 /// The vectors of `stored`, for each kind.
-fn stored() -> [Vec<Vector>; 11] {
-    let mut vectors: [Vec<Vector>; 11] = Default::default();
+fn stored() -> &'static [Vec<Vector>; OTHERS] {
+    static STORED: OnceLock<[Vec<Vector>; OTHERS]> = OnceLock::new();
+    STORED.get_or_init(made_stored)
+}
+
+fn made_stored() -> [Vec<Vector>; OTHERS] {
+    let mut vectors: [Vec<Vector>; OTHERS] = Default::default();
     let (inputs, replies) = (inputs(Kind::Stored, DEFAULT_SEED), replies(Kind::Stored));
     let (mut records, mut replies) = (inputs.as_slice(), replies.as_slice());
     for line in lines(Kind::Stored) {
@@ -192,7 +201,7 @@ fn stored_records_are_those_of_the_other_streams_in_their_order() {
         let mut others = vectors(kind).into_iter();
         assert!(!records.is_empty());
         for record in records {
-            let found = others.any(|other| other == record);
+            let found = others.any(|other| other == *record);
             assert!(found, "{kind:?} {}", record.line);
         }
     }
@@ -294,7 +303,7 @@ fn limit_of(record: &[u8]) -> u32 {
 /// The header bytes of a record of `sheets`, `headers` or `frames`: behind limit and sheet, or behind limit and length.
 fn header_of(kind: Kind, record: &[u8]) -> &[u8] {
     if kind == Kind::Sheets {
-        return &record[4 + 184..][..210];
+        return &record[4 + 328..][..210];
     }
     let length = u16::from_be_bytes([record[4], record[5]]);
     &record[6..][..usize::from(length)]
@@ -435,12 +444,12 @@ fn sheets_that_are_full_or_nearly_so_are_offered_frames_for_20_and_21() {
     let stored = stored();
     let mut seen = BTreeSet::new();
     for vector in &stored[Kind::Sheets as usize] {
-        let counts = &vector.record[4 + 144..][..40];
+        let counts = &vector.record[4 + 288..][..40];
         let total: u64 = counts
             .chunks_exact(4)
             .map(|count| u64::from(u32::from_be_bytes(count.try_into().unwrap())))
             .sum();
-        if vector.record[4..][..144] == [0; 144] && total >= 65_534 {
+        if vector.record[4..][..288] == [0; 288] && total >= 65_534 {
             seen.insert((total, limit_of(&vector.record), vector.reply[0]));
         }
     }
@@ -514,8 +523,8 @@ fn patterns_stand_byte_for_byte_as_told() {
     let refused = [&[8, 0, 0, 0, 0, 0, 0, 0x1F, 0xFF][..], &[0; 51]].concat();
     header.extend([0; 4]);
     agrees(Kind::Frames, &header, &refused);
-    let mut offered = [&[0, 0, 0, 5][..], &[0; 184], &air, &[0; 4]].concat();
-    let counted = [&refused[..], &[0; 144 + 31], &[1], &[0; 8]].concat();
+    let mut offered = [&[0, 0, 0, 5][..], &[0; 328], &air, &[0; 4]].concat();
+    let counted = [&refused[..], &[0; 288 + 31], &[1], &[0; 8]].concat();
     agrees(Kind::Sheets, &offered, &counted);
     // A limit of 4: the five flips are too many. A limit of 43: it is itself refused. They are counted after 1 to 8.
     for (limit, number, place, at) in [(4, 21, 5, 39), (43, 20, 43, 35)] {
@@ -524,9 +533,89 @@ fn patterns_stand_byte_for_byte_as_told() {
         (header[3], offered[3]) = (limit, limit);
         agrees(Kind::Headers, &header[..262], &refused);
         agrees(Kind::Frames, &header, &refused);
-        let mut counted = [&refused[..], &[0; 184]].concat();
-        counted[60 + 144 + at] = 1;
+        let mut counted = [&refused[..], &[0; 328]].concat();
+        counted[60 + 288 + at] = 1;
         agrees(Kind::Sheets, &offered, &counted);
+    }
+}
+
+#[test]
+fn sources_stand_byte_for_byte_as_told() {
+    // Source 1: a caller with 1, 2, 3, 4 and last counter 5, a responder with 6, 7, 8, 9, not heard. Two counts follow.
+    let numbers = |numbers: [u32; 4]| numbers.map(u32::to_be_bytes).concat();
+    let caller = [&numbers([1, 2, 3, 4])[..], &[1, 5]].concat();
+    let responder = [&numbers([6, 7, 8, 9])[..], &[0, 0]].concat();
+    let sheet = [&[0; 36][..], &caller, &responder, &[0; 6 * 36 + 40]].concat();
+    let shown = |source: u8, reply: &[u8]| {
+        let record = [&sheet[..], &[source]].concat();
+        let compared = compare(Kind::Sources, &record, reply).unwrap();
+        assert_eq!(compared.differences, Vec::<String>::new());
+    };
+    let sums = [7u64, 9].map(u64::to_be_bytes).concat();
+    shown(1, &[&caller[..], &responder, &sums].concat());
+    for source in [0, 2, 7, 8, 9, 128, 255] {
+        shown(source, &[0; 52]);
+    }
+    let told = compare(Kind::Sources, &[&sheet[..], &[1]].concat(), &[0; 52]).unwrap();
+    let text = told.to_string();
+    assert!(text.contains("expected: source 1 2 3 4 5 6 7 8 9 - 7 9\n"));
+    assert!(text.contains("found:    source 0 0 0 0 - 0 0 0 0 - 0 0\n"));
+}
+
+#[test]
+fn sources_with_a_record_and_without_one_are_asked_for() {
+    let stored = &stored()[Kind::Sources as usize];
+    let asked: BTreeSet<u8> = stored.iter().map(|v| v.record[328]).collect();
+    assert!((0..=9)
+        .chain([127, 128, 255])
+        .all(|source| asked.contains(&source)));
+    for vector in stored {
+        assert!(vector.record[328] < 8 || vector.reply == [0; 52]);
+    }
+    // a sum past 32 bits
+    let most = 2 * u64::from(u32::MAX);
+    let sums = [most, most].map(u64::to_be_bytes).concat();
+    assert!(stored.iter().any(|v| v.reply.ends_with(&sums)));
+}
+
+/// The last counters of source and lane that a record of `sheets` is about, where its frame was accepted: that of the
+/// frame's own lane and that of the other, each 255 where there is none.
+fn last_counters(vector: &Vector) -> (u8, u8) {
+    let (src_id, caller) = (vector.reply[9], vector.reply[9 + 8]);
+    let source = &vector.record[4 + 36 * usize::from(src_id)..][..36];
+    let last = |lane: &[u8]| if lane[16] == 1 { lane[17] } else { 255 };
+    let (as_caller, as_responder) = (last(&source[..18]), last(&source[18..]));
+    if caller == 1 {
+        (as_caller, as_responder)
+    } else {
+        (as_responder, as_caller)
+    }
+}
+
+#[test]
+fn frames_repeat_their_own_lane_or_the_other_or_neither() {
+    let mut seen = BTreeSet::new();
+    for vector in &stored()[Kind::Sheets as usize] {
+        if vector.reply[0] == 0 {
+            let (own, other) = last_counters(vector);
+            let (caller, fr_cnt_tx) = (vector.reply[9 + 8], vector.reply[9 + 2]);
+            let of = |last: u8| match last {
+                255 => "not heard",
+                last if last == fr_cnt_tx => "repeated",
+                _ => "another",
+            };
+            seen.insert((caller, of(own), of(other)));
+        }
+    }
+    for caller in [0, 1] {
+        for own in ["not heard", "repeated", "another"] {
+            for other in ["not heard", "repeated", "another"] {
+                assert!(
+                    seen.contains(&(caller, own, other)),
+                    "{caller} {own} {other}"
+                );
+            }
+        }
     }
 }
 
@@ -595,7 +684,7 @@ fn missing_and_further_replies_are_told() {
 #[test]
 fn what_is_no_record_is_not_compared() {
     assert_eq!(compare(Kind::Words, &[0], &[]), None);
-    assert_eq!(compare(Kind::Stored, &[11, 0], &[]), None);
+    assert_eq!(compare(Kind::Stored, &[12, 0], &[]), None);
     assert_eq!(compare(Kind::Stored, &[200], &[]), None);
     assert_eq!(compare(Kind::Stored, &[0, 0], &[]), None);
     assert_eq!(compare(Kind::Stored, &[], &[]).map(|c| c.records), Some(0));
@@ -626,7 +715,7 @@ fn stored_records_replies_and_lines_are_the_same_everywhere() {
     let text = lines(Kind::Stored).join("\n") + "\n";
     let replies = replies(Kind::Stored);
     assert!(bytes.len() <= 1_600_000 && replies.len() <= 1_400_000);
-    assert_eq!(hash(&bytes), 0x3149_0F11_E3F5_802F);
-    assert_eq!(hash(text.as_bytes()), 0x76D5_5125_7C72_44A4);
-    assert_eq!(hash(&replies), 0xE69D_BBBF_6FC3_525F);
+    assert_eq!(hash(&bytes), 0xC026_1988_64A8_DE57);
+    assert_eq!(hash(text.as_bytes()), 0x081D_F8F3_1059_D191);
+    assert_eq!(hash(&replies), 0x4753_872D_9EC9_9CC2);
 }

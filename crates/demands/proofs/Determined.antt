@@ -23,11 +23,12 @@ use Rattle.header.specs.Reading.{signal}
 use Rattle.header.specs.Patterns.{beside, headerRead}
 use Rattle.header.specs.Writing.{afterWrite, HeaderWritten}
 use Rattle.frame.specs.Frames.{frame, frameRead}
-use Rattle.sheet.specs.declared.Source.{Source}
+use Rattle.sheet.specs.declared.Lane.{Lane}
+use Rattle.sheet.specs.declared.Display.{Display}
 use Rattle.sheet.specs.declared.Sheet.{Sheet}
 use Rattle.sheet.specs.declared.Offered.{Offered}
 use Rattle.sheet.specs.Records.{nextOf}
-use Rattle.sheet.specs.Sheets.{newSheet, acceptedOf, refusedOf, heardOf, fullOf, offerOf}
+use Rattle.sheet.specs.Sheets.{newSheet, acceptedOf, refusedOf, heardOf, fullOf, offerOf, displayOf}
 use Rattle.record.specs.declared.Cut.{Cut}
 use Rattle.record.specs.Records.{cutOf}
 use Rattle.page.specs.declared.PageAnswer.{PageAnswer}
@@ -116,8 +117,11 @@ heard-one sheet r s = one
 pub full-one : (sheet : Sheet) (r s : Bool) → r ≡ fullOf sheet → s ≡ fullOf sheet → r ≡ s
 full-one sheet r s = one
 
-pub next-one : (source : Source) («fr_cnt_tx» flips : ℕ) (r s : Source) → r ≡ nextOf source «fr_cnt_tx» flips → s ≡ nextOf source «fr_cnt_tx» flips → r ≡ s
-next-one source «fr_cnt_tx» flips r s = one
+pub next-one : (lane : Lane) («fr_cnt_tx» flips : ℕ) (r s : Lane) → r ≡ nextOf lane «fr_cnt_tx» flips → s ≡ nextOf lane «fr_cnt_tx» flips → r ≡ s
+next-one lane «fr_cnt_tx» flips r s = one
+
+pub display-of-one : (sheet : Sheet) (source : ℕ) (r s : Display) → r ≡ displayOf sheet source → s ≡ displayOf sheet source → r ≡ s
+display-of-one sheet source r s = one
 
 pub next-record-one : (rest : List ℕ) (r s : Cut) → r ≡ cutOf rest → s ≡ cutOf rest → r ≡ s
 next-record-one rest r s = one

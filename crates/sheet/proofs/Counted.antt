@@ -1,4 +1,4 @@
--- One answer counted: a record hears its own frames only, a refusal its own number, and the sum grows by one.
+-- One answer counted: a lane hears its own frames only, a refusal its own number, and the sum grows by one.
 -- Assumes nothing.
 use mathlib.Core.Path.{_≡_, refl, sym, _∙_}
 use mathlib.Core.Bool.{Bool, true, false, cond}
@@ -10,12 +10,13 @@ use lib.Seq.{getD-set-same, getD-set-other}
 use borrow.Author.Tests.{eqb-true, eqb-false}
 use Rattle.header.specs.declared.Answer.{Answer}
 use Rattle.header.specs.declared.Answer.the-variants.{Accepted, Refused}
-use Rattle.sheet.specs.declared.Source.{Source}
 use Rattle.sheet.specs.declared.Sheet.{Sheet}
-use Rattle.sheet.specs.Records.{silent, addOf, nextOf}
-use Rattle.sheet.specs.Sheets.{records, counted, refusalCounts, recordOf, slotOf, sourceAt, refusalsAt, acceptOf, refuseOf, countedOf, acceptedOf, refusedOf, heardOf, fullSheet}
-use Rattle.sheet.specs.Histories.{ownIn, replayFrom, refusedIn}
-use Rattle.sheet.proofs.Growing.{Within, within-more, within-heard, next-frames}
+use Rattle.sheet.specs.Records.{addOf}
+use Rattle.sheet.specs.Lanes.{Role, recordOf}
+use Rattle.sheet.specs.Sheets.{records, counted, refusalCounts, slotOf, laneAt, refusalsAt, acceptOf, refuseOf, countedOf, acceptedOf, refusedOf, heardOf, fullSheet}
+use Rattle.sheet.specs.Histories.{ofLane, ownIn, replayFrom, refusedIn}
+use Rattle.sheet.proofs.Growing.{Within, within-more, within-heard}
+use Rattle.sheet.proofs.Lanes.{heard-lane, heard-more}
 use Rattle.sheet.proofs.Offering.{HasSlot, Countable, recorded, numbered, refuses}
 use Rattle.base.proofs.OneMore.{sum-part, sum-set}
 use Rattle.base.proofs.Numbers.{place-one}
@@ -25,7 +26,7 @@ pub record Grown (n : ℕ) (sheet : Sheet) : Type 0 where
   pub sources-long : length (sheet .sources) ≡ records
   pub refusals-long : length (sheet .refusals) ≡ refusalCounts
   pub heard-is : heardOf sheet ≡ n
-  pub within : (k : ℕ) → Within n (sourceAt sheet k)
+  pub within : (k : ℕ) (role : Role) → Within n (laneAt sheet k role)
 
 -- a number that has a count adds one to it, and no other number has the same
 counts-one : (sheet : Sheet) (number : ℕ) → HasSlot number → refuseOf sheet number ≡ record { sources = sheet .sources; refusals = set (sheet .refusals) (slotOf number) (addOf (refusalsAt sheet (slotOf number)) 1) }
@@ -41,20 +42,11 @@ module _ (n : ℕ) (sheet : Sheet) (so : Grown n sheet) where
   unfolding refusedOf
   refusals-le k h = omega (arith, so .heard-is, sum-part (refusalsAt sheet) k refusalCounts h)
 
-  -- a record hears its own frames
-  pub counted-own : (k : ℕ) (a : Answer) → Countable a → sourceAt (countedOf sheet a) k ≡ replayFrom (sourceAt sheet k) (ownIn k a)
+  -- a lane hears its own frames
+  pub counted-own : (k : ℕ) (role : Role) (a : Answer) → Countable a → laneAt (countedOf sheet a) k role ≡ replayFrom (laneAt sheet k role) (ownIn k role a)
   unfolding acceptOf
-  counted-own k (Refused why) (numbered has) = rw (counts-one sheet (why .number) has)
-  counted-own k (Accepted h flips) (recorded known few) = by (eqb (recordOf h) k) refl
-    where
-      next : Source
-      next = nextOf (sourceAt sheet (recordOf h)) (h .«fields» .«fr_cnt_tx») flips
-
-      by : (b : Bool) → eqb (recordOf h) k ≡ b → sourceAt (acceptOf sheet h flips) k ≡ replayFrom (sourceAt sheet k) (ownIn k (Accepted h flips))
-      by true e =
-          let own : recordOf h ≡ k = eqb-true (recordOf h) k e in
-          rw (e, ← own) (getD-set-same (sheet .sources) (recordOf h) next silent (rw (so .sources-long) known))
-      by false e = rw e (getD-set-other (sheet .sources) (recordOf h) k next silent (λ (q : k ≡ recordOf h). eqb-false (recordOf h) k e (sym q)))
+  counted-own k role (Refused why) (numbered has) = rw (counts-one sheet (why .number) has)
+  counted-own k role (Accepted h flips) (recorded known few) = heard-lane (sheet .sources) h flips (rw (so .sources-long) known) k role
 
   module _ (room : n < fullSheet) where
     -- a count of a sheet with room has room
@@ -89,20 +81,18 @@ module _ (n : ℕ) (sheet : Sheet) (so : Grown n sheet) where
     pub counted-heard : (a : Answer) → Countable a → heardOf (countedOf sheet a) ≡ n + 1
     unfolding acceptOf acceptedOf refusedOf
     counted-heard (Accepted h flips) (recorded known few) =
-        let old = sourceAt sheet (recordOf h) in
-        let counter = h .«fields» .«fr_cnt_tx» in
-        omega (arith, so .heard-is, sum-set (λ s. s .frames) silent (sheet .sources) (recordOf h) (nextOf old counter flips) records known (rw (so .sources-long) known) (next-frames old counter flips ∙ exact (old .frames) (so .within (recordOf h) .frames-le)))
+        omega (arith, so .heard-is, heard-more (sheet .sources) h flips (rw (so .sources-long) known) records known (λ role. omega (arith, so .within (recordOf h) role)))
     counted-heard (Refused why) (numbered has) =
         let i = slotOf (why .number) in
         rw (counts-one sheet (why .number) has)
         (omega (arith, so .heard-is, sum-set (λ c. c) 0 (sheet .refusals) i (addOf (refusalsAt sheet i) 1) refusalCounts has (rw (so .refusals-long) has) (refusal-more (why .number) has)))
 
-  -- every record stays within its bounds
-  counted-within : (a : Answer) → Countable a → (k : ℕ) → Within (n + 1) (sourceAt (countedOf sheet a) k)
-  counted-within (Accepted h flips) (recorded known few) k =
-      rw (counted-own k (Accepted h flips) (recorded known few))
-      (within-heard (eqb (recordOf h) k) n (sourceAt sheet k) (so .within k) (record { counter = h .«fields» .«fr_cnt_tx»; flips = flips }) few)
-  counted-within (Refused why) known k = rw (counted-own k (Refused why) known) (within-more n (sourceAt sheet k) (so .within k))
+  -- every lane stays within its bounds
+  counted-within : (a : Answer) → Countable a → (k : ℕ) (role : Role) → Within (n + 1) (laneAt (countedOf sheet a) k role)
+  counted-within (Accepted h flips) (recorded known few) k role =
+      rw (counted-own k role (Accepted h flips) (recorded known few))
+      (within-heard (ofLane k role (Accepted h flips)) n (laneAt sheet k role) (so .within k role) (record { counter = h .«fields» .«fr_cnt_tx»; flips = flips }) few)
+  counted-within (Refused why) known k role = rw (counted-own k role (Refused why) known) (within-more n (laneAt sheet k role) (so .within k role))
 
   -- no record and no count comes or goes
   counted-sources-long : (a : Answer) → Countable a → length (countedOf sheet a .sources) ≡ records

@@ -1,6 +1,6 @@
 -- THE RULE OF HISTORIES: what the sheet of a history says of the frames that it was offered.
 -- Assumes nothing.
-use mathlib.Core.Path.{_≡_, sym, ap, _∙_}
+use mathlib.Core.Path.{_≡_, sym, ap, ap₂, _∙_}
 use mathlib.Core.List.{List, _++_}
 use Prim.Native.Nat.{ℕ, _+_, _≤_, _<_, min}
 use native.Mathlib.Omega.{arith}
@@ -9,12 +9,13 @@ use lib.Seq.{take-append-le}
 use Rattle.base.specs.Checks.{refusal}
 use Rattle.header.specs.declared.Answer.the-variants.{Refused}
 use Rattle.frame.specs.Frames.{frameOf, Frame}
-use Rattle.sheet.specs.declared.Source.{Source}
+use Rattle.sheet.specs.declared.Lane.{Lane}
 use Rattle.sheet.specs.declared.Sheet.{Sheet}
-use Rattle.sheet.specs.Sheets.{slotOf, newSheet, sourceAt, refusalsAt, acceptedOf, refusedOf, fullSheet, takenOf, offerOf}
+use Rattle.sheet.specs.Lanes.{Role, as-caller, as-responder}
+use Rattle.sheet.specs.Sheets.{slotOf, newSheet, sourceAt, laneAt, refusalsAt, acceptedOf, refusedOf, fullSheet, takenOf, offerOf}
 use Rattle.sheet.specs.Histories.{sheetOf, takenFrom, ownOf, replayFrom, replayOf, refusedWith, Unfilled}
 use Rattle.sheet.proofs.Counted.{refusals-le}
-use Rattle.sheet.proofs.Running.{countAll, new-silent, new-refusals, new-grown, history-taken, history-few, history-grown}
+use Rattle.sheet.proofs.Running.{countAll, new-lane, new-refusals, new-grown, history-taken, history-few, history-grown}
 use Rattle.sheet.proofs.Replay.{all-own, all-refused}
 use Rattle.sheet.proofs.Offering.{HasSlot, full-refuses, room-takes}
 use Rattle.header.specs.Patterns.{patternsOf}
@@ -25,12 +26,16 @@ module _ (history : List Frame) where
   pub offered-counted : min fullSheet (length history) ≡ acceptedOf (sheetOf history) + refusedOf (sheetOf history)
   offered-counted = sym (history-grown history .heard-is)
 
-  -- a source's record is the replay of its own accepted frames
-  pub own-record : (k : ℕ) → sourceAt (sheetOf history) k ≡ replayOf (ownOf k (takenFrom history))
-  own-record k =
-      ap (λ (t : Sheet). sourceAt t k) (history-taken history)
-      ∙ all-own k (takenFrom history) 0 newSheet new-grown (history-few history)
-      ∙ ap (λ (s : Source). replayFrom s (ownOf k (takenFrom history))) (new-silent k)
+  -- a lane is the replay of its own accepted frames
+  pub own-lane : (k : ℕ) (role : Role) → laneAt (sheetOf history) k role ≡ replayOf (ownOf k role (takenFrom history))
+  own-lane k role =
+      ap (λ (t : Sheet). laneAt t k role) (history-taken history)
+      ∙ all-own k role (takenFrom history) 0 newSheet new-grown (history-few history)
+      ∙ ap (λ (l : Lane). replayFrom l (ownOf k role (takenFrom history))) (new-lane k role)
+
+  -- and a source's record is its two lanes
+  pub own-record : (k : ℕ) → sourceAt (sheetOf history) k ≡ record { caller = replayOf (ownOf k as-caller (takenFrom history)); responder = replayOf (ownOf k as-responder (takenFrom history)) }
+  own-record k = ap₂ (λ (called responded : Lane). record { caller = called; responder = responded }) (own-lane k as-caller) (own-lane k as-responder)
 
   -- a refusal's count is the number of frames refused so
   pub own-refusals : (number : ℕ) → HasSlot number → refusalsAt (sheetOf history) (slotOf number) ≡ refusedWith number (takenFrom history)
@@ -44,10 +49,10 @@ module _ (history : List Frame) where
   never-filled =
       let so = history-grown history in
       record {
-        frames = λ k. omega (arith, so .within k);
-        repaired = λ k. omega (arith, so .within k);
-        missed = λ k. omega (arith, so .within k);
-        repeats = λ k. omega (arith, so .within k);
+        frames = λ k role. omega (arith, so .within k role);
+        repaired = λ k role. omega (arith, so .within k role);
+        missed = λ k role. omega (arith, so .within k role);
+        repeats = λ k role. omega (arith, so .within k role);
         refusals = λ k h. omega (arith, refusals-le (min fullSheet (length history)) (sheetOf history) so k h);
       }
 

@@ -1,4 +1,5 @@
 pub mod Growing
+pub mod Lanes
 pub mod Totals
 pub mod Offering
 pub mod Refusals
@@ -6,3 +7,4 @@ pub mod Counted
 pub mod Running
 pub mod Replay
 pub mod History
+pub mod LaneFrames

@@ -28,11 +28,16 @@ use Rattle.frame.proofs.Rules.{frame-first, frame-read-is, frame-answer}
 use Rattle.sheet.specs.declared.Source.{Source}
 use Rattle.sheet.specs.declared.Sheet.{Sheet}
 use Rattle.sheet.specs.declared.Offered.{Offered}
-use Rattle.sheet.specs.Records.{addOf, nextOf}
-use Rattle.sheet.specs.Sheets.{records, recordOf, counted, refusalCounts, slotOf, sourceAt, refusalsAt, acceptOf, refuseOf, countedOf, heardOf, fullSheet, fullOf, offerAnswer, takenOf, offerOf}
+use Rattle.sheet.specs.Records.{addOf}
+use Rattle.sheet.specs.Lanes.{silent, recordOf, hearOf}
+use Rattle.sheet.specs.Sheets.{records, counted, refusalCounts, slotOf, newSheet, sourceAt, refusalsAt, acceptOf, refuseOf, countedOf, heardOf, fullSheet, fullOf, offerAnswer, takenOf, offerOf}
+
+-- a sheet that was offered nothing
+pub starts-new : (s : Source) → s ≡ silent → record { sources = replicate records s; refusals = replicate refusalCounts 0 } ≡ newSheet
+starts-new s none = rw none
 
 -- the sheet with one record changed
-pub accepts : (sheet : Sheet) (h : Header) (flips : ℕ) (changed : Source) → changed ≡ nextOf (sourceAt sheet (recordOf h)) (h .«fields» .«fr_cnt_tx») flips → record { sources = set (sheet .sources) (recordOf h) changed; refusals = sheet .refusals } ≡ acceptOf sheet h flips
+pub accepts : (sheet : Sheet) (h : Header) (flips : ℕ) (changed : Source) → changed ≡ hearOf (sourceAt sheet (recordOf h)) h flips → record { sources = set (sheet .sources) (recordOf h) changed; refusals = sheet .refusals } ≡ acceptOf sheet h flips
 unfolding acceptOf
 accepts sheet h flips changed is = rw is
 

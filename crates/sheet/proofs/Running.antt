@@ -9,8 +9,9 @@ use lib.ListN.{length, take, length-take}
 use Rattle.sheet.specs.declared.Source.{Source}
 use Rattle.sheet.specs.declared.Sheet.{Sheet}
 use Rattle.sheet.specs.declared.Offered.{Offered}
-use Rattle.sheet.specs.Records.{silent}
-use Rattle.sheet.specs.Sheets.{records, refusalCounts, newSheet, sourceAt, refusalsAt, countedOf, acceptedOf, refusedOf, heardOf, fullSheet}
+use Rattle.sheet.specs.Records.{silentLane}
+use Rattle.sheet.specs.Lanes.{Role, as-caller, as-responder, silent, framesOf}
+use Rattle.sheet.specs.Sheets.{records, refusalCounts, newSheet, sourceAt, laneAt, refusalsAt, countedOf, acceptedOf, refusedOf, heardOf, fullSheet}
 use Rattle.sheet.specs.Histories.{runOf, sheetOf, takenFrom}
 use Rattle.sheet.proofs.Offering.{frame-countable, full-refuses, room-takes}
 use Rattle.sheet.proofs.Counted.{Grown, counted-grown}
@@ -19,22 +20,26 @@ use Rattle.base.proofs.Tabulate.{read-replicated}
 use Rattle.frame.specs.Frames.{Frame, frameOf}
 
 -- a new sheet has heard no source and counted no refusal
-pub new-silent : (k : ℕ) → sourceAt newSheet k ≡ silent
+new-silent : (k : ℕ) → sourceAt newSheet k ≡ silent
 new-silent k = read-replicated records k silent
+
+pub new-lane : (k : ℕ) (role : Role) → laneAt newSheet k role ≡ silentLane
+new-lane k as-caller = ap (λ (s : Source). s .caller) (new-silent k)
+new-lane k as-responder = ap (λ (s : Source). s .responder) (new-silent k)
 
 pub new-refusals : (k : ℕ) → refusalsAt newSheet k ≡ 0
 new-refusals k = read-replicated refusalCounts k 0
 
 new-heard : heardOf newSheet ≡ 0
 unfolding acceptedOf refusedOf
-new-heard = ap₂ (λ (x y : ℕ). x + y) (sum-zeros records (λ k. sourceAt newSheet k .frames) (λ k. ap (λ (s : Source). s .frames) (new-silent k))) (sum-zeros refusalCounts (refusalsAt newSheet) new-refusals)
+new-heard = ap₂ (λ (x y : ℕ). x + y) (sum-zeros records (λ k. framesOf (sourceAt newSheet k)) (λ k. ap framesOf (new-silent k))) (sum-zeros refusalCounts (refusalsAt newSheet) new-refusals)
 
 pub new-grown : Grown 0 newSheet
 new-grown = record {
   sources-long = refl;
   refusals-long = refl;
   heard-is = new-heard;
-  within = λ k. rw (new-silent k) (omega arith);
+  within = λ k role. rw (new-lane k role) (omega arith);
 }
 
 -- a sheet after frames that it takes

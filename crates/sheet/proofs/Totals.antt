@@ -1,7 +1,8 @@
--- The loop that adds n counts.
+-- The loop that adds n numbers, none of them above the most that one can be.
 -- Assumes nothing.
 use mathlib.Core.Path.{_≡_, sym}
-use Prim.Native.Nat.{ℕ, _+_, _*_, _≤_, _<_, zero-le}
+use Prim.Native.Nat.{ℕ, _+_, _*_, _≤_, _<_, _^_, zero-le}
+use native.Mathlib.Nat.{mul-le-mul-right}
 use native.Mathlib.Omega.{arith}
 use mir.Syntax.{w32, w64}
 use mir.Val.{Fits}
@@ -9,11 +10,15 @@ use Rattle.base.specs.Lists.{sumTo}
 use Rattle.base.proofs.Sums.{sum-none, sum-more}
 use Rattle.sheet.specs.Records.{countLimit}
 
-module _ (n : ℕ) (f : ℕ → ℕ) where
-  -- the counts before k are in the sum
+-- a count is at most 4,294,967,295
+pub count-le : (x : ℕ) → Fits w32 x → x ≤ countLimit
+count-le x b = omega (arith, b .fits)
+
+module _ (n most : ℕ) (f : ℕ → ℕ) where
+  -- the numbers before k are in the sum
   pub record Summed (k sum : ℕ) : Type 0 where
     pub inside : k ≤ n
-    pub small : sum ≤ k * countLimit
+    pub small : sum ≤ k * most
     pub is : sum ≡ sumTo k f
 
   -- nothing is summed
@@ -21,12 +26,12 @@ module _ (n : ℕ) (f : ℕ → ℕ) where
   sum-starts = record { inside = zero-le; small = zero-le; is = sym (sum-none f) }
 
   module _ (k sum : ℕ) (so : Summed k sum) where
-    -- so few counts have room in 64 bits
-    pub sum-fits : n ≤ countLimit → k < n → (x : ℕ) → Fits w32 x → Fits w64 (sum + x)
-    sum-fits few h x b = record { fits = omega (arith, so .small) }
+    -- so few numbers have room in 64 bits
+    pub sum-fits : n * most < 2 ^ 64 → k < n → (x : ℕ) → x ≤ most → Fits w64 (sum + x)
+    sum-fits few h x b = record { fits = omega (arith, so .small, mul-le-mul-right most h) }
 
-    -- a count more
-    pub sum-goes-on : k < n → (x : ℕ) → Fits w32 x → x ≡ f k → Summed (k + 1) (sum + x)
+    -- a number more
+    pub sum-goes-on : k < n → (x : ℕ) → x ≤ most → x ≡ f k → Summed (k + 1) (sum + x)
     sum-goes-on h x b e = record { inside = omega arith; small = omega (arith, so .small); is = sum-more k f sum x (so .is) e }
 
     -- all n are summed
@@ -34,5 +39,5 @@ module _ (n : ℕ) (f : ℕ → ℕ) where
     sum-ends h = let all : k ≡ n = omega (arith, so .inside) in rw all at (so .is)
 
     -- how large the sum can be
-    pub sum-small : sum ≤ n * countLimit
-    sum-small = omega (arith, so .inside, so .small)
+    pub sum-small : sum ≤ n * most
+    sum-small = omega (arith, so .small, mul-le-mul-right most (so .inside))

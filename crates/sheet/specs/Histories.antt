@@ -1,6 +1,6 @@
 -- Histories: the frames that a sheet was offered, the first first, and what is counted from them.
 -- Assumes nothing.
-use mathlib.Core.Bool.{cond}
+use mathlib.Core.Bool.{Bool, false, cond, _&&_}
 use mathlib.Core.List.{List, [], _∷_, _++_, foldl}
 use Prim.Native.Nat.{ℕ, _+_, _<_}
 use lib.Dec.{eqb}
@@ -8,10 +8,11 @@ use lib.ListN.{take}
 use Rattle.header.specs.declared.Answer.{Answer}
 use Rattle.header.specs.declared.Answer.the-variants.{Accepted, Refused}
 use Rattle.frame.specs.Frames.{Frame, frameOf}
-use Rattle.sheet.specs.declared.Source.{Source}
+use Rattle.sheet.specs.declared.Lane.{Lane}
 use Rattle.sheet.specs.declared.Sheet.{Sheet}
-use Rattle.sheet.specs.Records.{silent, countLimit, nextOf}
-use Rattle.sheet.specs.Sheets.{refusalCounts, recordOf, newSheet, sourceAt, refusalsAt, fullSheet, offerOf}
+use Rattle.sheet.specs.Records.{silentLane, countLimit, nextOf}
+use Rattle.sheet.specs.Lanes.{Role, sentAs, recordOf}
+use Rattle.sheet.specs.Sheets.{refusalCounts, newSheet, laneAt, refusalsAt, fullSheet, offerOf}
 
 -- a sheet after some frames, and the sheet grown from a new one
 abbrev pub runOf : Sheet → List Frame → Sheet
@@ -25,26 +26,37 @@ sheetOf history = runOf newSheet history
 abbrev pub takenFrom : List Frame → List Frame
 takenFrom history = take fullSheet history
 
--- what a record hears of a frame: its FrCntTx and its repaired bits
+-- THE LANES OF RECORD k
+-- whether an answer is that to an accepted frame of a lane
+abbrev pub ofLane : ℕ → Role → Answer → Bool
+ofLane k role (Accepted h flips) = eqb (recordOf h) k && sentAs role h
+ofLane k role (Refused why) = false
+
+-- "that lane's accepted frames", in their order
+abbrev pub laneFrames : ℕ → Role → List Frame → List Frame
+laneFrames k role [] = []
+laneFrames k role (f ∷ fs) = cond (ofLane k role (frameOf f)) (f ∷ laneFrames k role fs) (laneFrames k role fs)
+
+-- what a lane hears of a frame: its FrCntTx and its repaired bits
 pub record Own : Type 0 where
   pub counter : ℕ
   pub flips : ℕ
 
--- the accepted frames of record k
-abbrev pub ownIn : ℕ → Answer → List Own
-ownIn k (Accepted h flips) = cond (eqb (recordOf h) k) (record { counter = h .«fields» .«fr_cnt_tx»; flips = flips } ∷ []) []
-ownIn k (Refused why) = []
+-- of its own accepted frames
+abbrev pub ownIn : ℕ → Role → Answer → List Own
+ownIn k role (Accepted h flips) = cond (ofLane k role (Accepted h flips)) (record { counter = h .«fields» .«fr_cnt_tx»; flips = flips } ∷ []) []
+ownIn k role (Refused why) = []
 
-abbrev pub ownOf : ℕ → List Frame → List Own
-ownOf k [] = []
-ownOf k (f ∷ fs) = ownIn k (frameOf f) ++ ownOf k fs
+abbrev pub ownOf : ℕ → Role → List Frame → List Own
+ownOf k role [] = []
+ownOf k role (f ∷ fs) = ownIn k role (frameOf f) ++ ownOf k role fs
 
--- a record after such frames, and the record that they make
-abbrev pub replayFrom : Source → List Own → Source
-replayFrom s own = foldl (λ r x. nextOf r (x .counter) (x .flips)) s own
+-- a lane after such frames, and the lane that they make
+abbrev pub replayFrom : Lane → List Own → Lane
+replayFrom l own = foldl (λ r x. nextOf r (x .counter) (x .flips)) l own
 
-abbrev pub replayOf : List Own → Source
-replayOf own = replayFrom silent own
+abbrev pub replayOf : List Own → Lane
+replayOf own = replayFrom silentLane own
 
 -- how many frames are refused with a number
 abbrev pub refusedIn : ℕ → Answer → ℕ
@@ -57,8 +69,8 @@ refusedWith number (f ∷ fs) = refusedIn number (frameOf f) + refusedWith numbe
 
 -- no count of a sheet has reached 4,294,967,295
 pub record Unfilled (sheet : Sheet) : Type 0 where
-  pub frames : (k : ℕ) → sourceAt sheet k .frames < countLimit
-  pub repaired : (k : ℕ) → sourceAt sheet k .repaired < countLimit
-  pub missed : (k : ℕ) → sourceAt sheet k .missed < countLimit
-  pub repeats : (k : ℕ) → sourceAt sheet k .repeats < countLimit
+  pub frames : (k : ℕ) (role : Role) → laneAt sheet k role .frames < countLimit
+  pub repaired : (k : ℕ) (role : Role) → laneAt sheet k role .repaired < countLimit
+  pub missed : (k : ℕ) (role : Role) → laneAt sheet k role .missed < countLimit
+  pub repeats : (k : ℕ) (role : Role) → laneAt sheet k role .repeats < countLimit
   pub refusals : (k : ℕ) → k < refusalCounts → refusalsAt sheet k < countLimit

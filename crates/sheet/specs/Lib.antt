@@ -1,3 +1,4 @@
 pub mod Records
+pub mod Lanes
 pub mod Sheets
 pub mod Histories

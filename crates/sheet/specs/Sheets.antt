@@ -14,17 +14,17 @@ use Rattle.header.specs.Fields.{lastSource}
 use Rattle.header.specs.Reading.{repairedAnswer}
 use Rattle.header.specs.Patterns.{beside, patternsOf}
 use Rattle.frame.specs.Frames.{Frame, frameChecks}
+use Rattle.sheet.specs.declared.Lane.{Lane}
 use Rattle.sheet.specs.declared.Source.{Source}
+use Rattle.sheet.specs.declared.Display.{Display}
 use Rattle.sheet.specs.declared.Sheet.{Sheet}
 use Rattle.sheet.specs.declared.Offered.{Offered}
-use Rattle.sheet.specs.Records.{silent, addOf, nextOf}
+use Rattle.sheet.specs.Records.{addOf}
+use Rattle.sheet.specs.Lanes.{Role, laneOf, silent, sourceIn, heardIn, acceptedIn, displayIn}
 
 -- "Eight records, one per SrcId": as many as there are sources that are not refused
 abbrev pub records : ℕ
 records = suc lastSource
-
-abbrev pub recordOf : Header → ℕ
-recordOf h = h .«fields» .«src_id»
 
 -- "and a count for each of the refusals 1 to 8", 20 and 21: "The sheet counts both"
 abbrev pub counted : List ℕ
@@ -43,17 +43,17 @@ newSheet = record { sources = replicate records silent; refusals = replicate ref
 
 -- what stands on a sheet
 abbrev pub sourceAt : Sheet → ℕ → Source
-sourceAt sheet k = getD (sheet .sources) k silent
+sourceAt sheet k = sourceIn (sheet .sources) k
+
+abbrev pub laneAt : Sheet → ℕ → Role → Lane
+laneAt sheet k role = laneOf role (sourceAt sheet k)
 
 abbrev pub refusalsAt : Sheet → ℕ → ℕ
 refusalsAt sheet k = getD (sheet .refusals) k 0
 
 -- an accepted frame changes its source's record
 unfoldable pub acceptOf : Sheet → Header → ℕ → Sheet
-acceptOf sheet h flips = record {
-  sources = set (sheet .sources) (recordOf h) (nextOf (sourceAt sheet (recordOf h)) (h .«fields» .«fr_cnt_tx») flips);
-  refusals = sheet .refusals;
-}
+acceptOf sheet h flips = record { sources = heardIn (sheet .sources) h flips; refusals = sheet .refusals }
 
 -- "A frame refused with 1 to 8", 20 or 21 "adds one to that refusal's count and touches no frame record." Any other number changes nothing.
 unfoldable pub refuseOf : Sheet → ℕ → Sheet
@@ -71,7 +71,7 @@ countedOf sheet (Refused why) = refuseOf sheet (why .number)
 
 -- "accepted over all sources plus refused over all numbers"
 unfoldable pub acceptedOf : Sheet → ℕ
-acceptedOf sheet = sumTo records (λ k. sourceAt sheet k .frames)
+acceptedOf sheet = acceptedIn records (sheet .sources)
 
 unfoldable pub refusedOf : Sheet → ℕ
 refusedOf sheet = sumTo refusalCounts (λ k. refusalsAt sheet k)
@@ -105,3 +105,7 @@ takenOf sheet patterns answer = record { read = beside patterns answer; sheet = 
 -- a frame offered: the answer, the patterns of its words, and the sheet after it
 abbrev pub offerOf : Sheet → Frame → Offered
 offerOf sheet f = takenOf sheet (patternsOf (f .head)) (offerAnswer sheet f)
+
+-- a source's numbers for display
+abbrev pub displayOf : Sheet → ℕ → Display
+displayOf sheet source = displayIn records (sheet .sources) source

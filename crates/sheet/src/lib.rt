@@ -1,4 +1,4 @@
-// The pass sheet: a record for each source, and a count for each refusal of a frame. A new sheet is the only reset.
+// The pass sheet: a record of two lanes for each source, and a count for each refusal of a frame. A new sheet is the only reset.
 use air::WORD_COUNT;
 use base::BEYOND_REPAIR;
 use base::CRC5_DIFFERS;
@@ -21,8 +21,9 @@ ghost use mathlib.Core.Path.{_≡_};
 ghost use Prim.Native.Nat.{_*_, _<_, _≤_};
 ghost use Rattle.word.specs.Repairs.{syndromes};
 ghost use Rattle.sheet.specs.Records.{countLimit, addOf, missedOf, tallyOf, nextOf};
+ghost use Rattle.sheet.specs.Lanes.{lanes, silent, hearOf, framesOf, repairedOf, summedOf, recordOf};
 ghost use Rattle.frame.specs.Frames.{frame};
-ghost use Rattle.sheet.specs.Sheets.{records, recordOf, refusalCounts, slotOf, newSheet, acceptOf, refuseOf, acceptedOf, refusedOf, heardOf, fullSheet, fullOf, offerOf};
+ghost use Rattle.sheet.specs.Sheets.{records, refusalCounts, slotOf, newSheet, acceptOf, refuseOf, acceptedOf, refusedOf, heardOf, fullSheet, fullOf, offerOf, displayOf};
 
 // The records: one for each SrcId that is not refused.
 pub const RECORDS: usize = header::LAST_SOURCE as usize + 1;
@@ -46,14 +47,31 @@ const COUNTED: [u8; REFUSAL_COUNTS] = [
 // Frame counters run from 0 to 15.
 const COUNTERS: u8 = 16;
 
-// What is counted of one source. Where it was never heard, `last` says nothing.
-pub struct Source {
+// What is counted of one lane. Where it was never heard, `last` says nothing.
+pub struct Lane {
     pub frames: u32,
     pub repaired: u32,
     pub missed: u32,
     pub repeats: u32,
     pub heard: bool,
     pub last: u8,
+}
+
+// The Caller bit of a caller's frame; that of a responder's is 0.
+const CALLER: u8 = 1;
+
+// A source's two lanes, by the Caller bit: what it sent as caller, and what it sent as responder.
+pub struct Source {
+    pub caller: Lane,
+    pub responder: Lane,
+}
+
+// A source's numbers for display: its lanes, and over both the frames and the repaired bits.
+pub struct Display {
+    pub caller: Lane,
+    pub responder: Lane,
+    pub frames: u64,
+    pub repaired: u64,
 }
 
 // A record for each SrcId; and in `refusals[k]` how many frames were refused with COUNTED[k].
@@ -74,11 +92,11 @@ const COUNT_LIMIT: u32 = 4294967295;
 // The frames that a sheet takes.
 pub const FULL: u64 = 65535;
 
-// A sheet that was offered nothing.
-pub fn new_sheet() -> Sheet
-    ensures { λ r. ⌜ r ≡ newSheet ⌝ }
+// A source that was never heard.
+fn never_heard() -> Source
+    ensures { λ r. ⌜ r ≡ silent ⌝ }
 {
-    let silent = Source {
+    let lane = Lane {
         frames: 0,
         repaired: 0,
         missed: 0,
@@ -86,8 +104,19 @@ pub fn new_sheet() -> Sheet
         heard: false,
         last: 0,
     };
+    Source {
+        caller: lane,
+        responder: lane,
+    }
+}
+
+// A sheet that was offered nothing.
+pub fn new_sheet() -> Sheet
+    ensures { λ r. ⌜ r ≡ newSheet ⌝ }
+{
+    let source = never_heard();
     Sheet {
-        sources: [silent; RECORDS],
+        sources: [source; RECORDS],
         refusals: [0; REFUSAL_COUNTS],
     }
 }
@@ -111,32 +140,52 @@ fn missed(last: u8, new: u8) -> u32
     (between % COUNTERS) as u32
 }
 
-// A source's record after a frame that adds so much to its repeats and to its missed frames.
-fn tally(source: Source, fr_cnt_tx: u8, flips: u32, repeats: u32, missed: u32) -> Source
-    ensures { λ r. ⌜ r ≡ tallyOf source «fr_cnt_tx» flips repeats missed ⌝ }
+// A lane after a frame that adds so much to its repeats and to its missed frames.
+fn tally(lane: Lane, fr_cnt_tx: u8, flips: u32, repeats: u32, missed: u32) -> Lane
+    ensures { λ r. ⌜ r ≡ tallyOf lane «fr_cnt_tx» flips repeats missed ⌝ }
 {
-    Source {
-        frames: add(source.frames, 1),
-        repaired: add(source.repaired, flips),
-        missed: add(source.missed, missed),
-        repeats: add(source.repeats, repeats),
+    Lane {
+        frames: add(lane.frames, 1),
+        repaired: add(lane.repaired, flips),
+        missed: add(lane.missed, missed),
+        repeats: add(lane.repeats, repeats),
         heard: true,
         last: fr_cnt_tx,
     }
 }
 
-// A source's record after an accepted frame.
-pub fn next(source: Source, fr_cnt_tx: u8, flips: u32) -> Source
-    ensures { λ r. ⌜ r ≡ nextOf source «fr_cnt_tx» flips ⌝ }
+// A lane after an accepted frame of it.
+pub fn next(lane: Lane, fr_cnt_tx: u8, flips: u32) -> Lane
+    ensures { λ r. ⌜ r ≡ nextOf lane «fr_cnt_tx» flips ⌝ }
 {
-    if source.heard {
-        let last = source.last;
+    if lane.heard {
+        let last = lane.last;
         if fr_cnt_tx == last {
-            return tally(source, fr_cnt_tx, flips, 1, 0);
+            return tally(lane, fr_cnt_tx, flips, 1, 0);
         }
-        return tally(source, fr_cnt_tx, flips, 0, missed(last, fr_cnt_tx));
+        return tally(lane, fr_cnt_tx, flips, 0, missed(last, fr_cnt_tx));
     }
-    tally(source, fr_cnt_tx, flips, 0, 0)
+    tally(lane, fr_cnt_tx, flips, 0, 0)
+}
+
+// A source's record after an accepted frame: the other lane stays as it is.
+fn hear(source: Source, header: Header, flips: u32) -> Source
+    ensures { λ r. ⌜ r ≡ hearOf source header flips ⌝ }
+{
+    let called = source.caller;
+    let responded = source.responder;
+    if header.fields.caller == CALLER {
+        let after = next(called, header.fields.fr_cnt_tx, flips);
+        return Source {
+            caller: after,
+            responder: responded,
+        };
+    }
+    let after = next(responded, header.fields.fr_cnt_tx, flips);
+    Source {
+        caller: called,
+        responder: after,
+    }
 }
 
 // The sheet after an accepted frame.
@@ -147,7 +196,7 @@ fn accept(sheet: Sheet, header: Header, flips: u32) -> Sheet
     let mut after = sheet;
     let k = header.fields.src_id as usize;
     let source = after.sources[k];
-    let changed = next(source, header.fields.fr_cnt_tx, flips);
+    let changed = hear(source, header, flips);
     after.sources[k] = changed;
     after
 }
@@ -180,16 +229,57 @@ fn refuse(sheet: Sheet, number: u8) -> Sheet
     after
 }
 
+// Frames accepted in both lanes of a source.
+fn frames(source: Source) -> u64
+    ensures { λ r. ⌜ r ≡ framesOf source ⌝ }
+    ensures { λ r. ⌜ r ≤ lanes * countLimit ⌝ }
+{
+    source.caller.frames as u64 + source.responder.frames as u64
+}
+
+// Bits repaired in both lanes of a source.
+fn repaired(source: Source) -> u64
+    ensures { λ r. ⌜ r ≡ repairedOf source ⌝ }
+{
+    source.caller.repaired as u64 + source.responder.repaired as u64
+}
+
+// A source's record with its sums.
+fn summed(source: Source) -> Display
+    ensures { λ r. ⌜ r ≡ summedOf source ⌝ }
+{
+    let caller = source.caller;
+    let responder = source.responder;
+    Display {
+        caller,
+        responder,
+        frames: frames(source),
+        repaired: repaired(source),
+    }
+}
+
+// The numbers of any source. One without a record has those of a source that was never heard.
+pub fn display_of(sheet: Sheet, source: u8) -> Display
+    ensures { λ r. ⌜ r ≡ displayOf sheet source ⌝ }
+{
+    let k = source as usize;
+    if RECORDS <= k {
+        return summed(never_heard());
+    }
+    let found = sheet.sources[k];
+    summed(found)
+}
+
 // Frames accepted over all sources.
 pub fn accepted(sheet: Sheet) -> u64
     ensures { λ r. ⌜ r ≡ acceptedOf sheet ⌝ }
-    ensures { λ r. ⌜ r ≤ records * countLimit ⌝ }
+    ensures { λ r. ⌜ r ≤ records * (lanes * countLimit) ⌝ }
 {
     let mut sum: u64 = 0;
     let mut k = 0;
     while k < RECORDS {
         let source = sheet.sources[k];
-        sum += source.frames as u64;
+        sum += frames(source);
         k += 1;
     }
     sum

@@ -25,10 +25,12 @@ pub const SHOWN: u8 = 9;
 
 pub const SHEETS: u8 = 10;
 
-// Room for every record and for every reply. The longest are one of `crc13` and one of `writes`.
+pub const SOURCES: u8 = 11;
+
+// Room for every record and for every reply. The longest are one of `crc13` and one of `sheets`.
 pub const RECORD_BYTES: usize = LENGTH + PAYLOAD_ROOM;
 
-pub const REPLY_BYTES: usize = VALUES + 2 + AIR_ROOM;
+pub const REPLY_BYTES: usize = SHEET_AFTER + SHEET;
 
 pub type Record = [u8; RECORD_BYTES];
 
@@ -75,8 +77,11 @@ pub const SPREAD: usize = 16;
 
 pub const RAW: usize = 18;
 
-// A sheet: eight sources, then ten counts of refusals. In a record of `sheets` the header follows it.
-pub const SOURCE: usize = 18;
+// A sheet: eight sources of two lanes, then ten counts of refusals. In a record of `sheets` the header follows it, in one of `sources`
+// the number of a source.
+pub const LANE: usize = 4 * 4 + 1 + 1;
+
+pub const SOURCE: usize = 2 * LANE;
 
 pub const REFUSALS: usize = 8 * SOURCE;
 
@@ -85,6 +90,8 @@ pub const COUNT: usize = 4;
 const SHEET: usize = REFUSALS + 10 * COUNT;
 
 pub const SHEETS_HEADER: usize = RULES + SHEET;
+
+pub const SOURCES_NUMBER: usize = SHEET;
 
 // An answer is a refusal's number, or 0, and its place. The values follow.
 pub const NUMBER: usize = 0;
@@ -116,7 +123,7 @@ pub fn sizes_of(kind: u8) -> Sizes
         CRC13 => Sizes(RECORD_BYTES, 2 + 2),
         CRC5 => Sizes(65, 1),
         HEADERS => Sizes(FRAMES_RULE, SHEET_AFTER),
-        WRITES => Sizes(WRITES_RULE + RULE, REPLY_BYTES),
+        WRITES => Sizes(WRITES_RULE + RULE, VALUES + 2 + AIR_ROOM),
         FRAMES => Sizes(FRAMES_RULE + RULE, SHEET_AFTER),
         PAGES => Sizes(
             LENGTH + PAGE_ROOM,
@@ -125,6 +132,7 @@ pub fn sizes_of(kind: u8) -> Sizes
         ROWS => Sizes(ROWS_ROOM + 2, VALUES + 2 + USER_ROOM),
         SHOWN => Sizes(RAW + 2, VALUES + 8),
         SHEETS => Sizes(SHEETS_RULE + RULE, SHEET_AFTER + SHEET),
+        SOURCES => Sizes(SOURCES_NUMBER + 1, 2 * LANE + 8 + 8),
         _ => Sizes(0, 0),
     }
 }

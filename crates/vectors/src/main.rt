@@ -28,6 +28,7 @@ fn put_reply(kind: u8, record: &Record, reply: &mut Reply) {
         layout::ROWS => pages::rows_reply(record, reply),
         layout::SHOWN => pages::shown_reply(record, reply),
         layout::SHEETS => sheets::sheet_reply(record, reply),
+        layout::SOURCES => sheets::source_reply(record, reply),
         _ => {}
     }
 }

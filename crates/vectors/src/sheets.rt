@@ -1,18 +1,19 @@
-// Sheets: a frame offered to a made-up sheet.
+// Sheets: a frame offered to a made-up sheet, and the numbers of a source on one.
 use crate::frames;
 use crate::layout;
 use crate::layout::Record;
 use crate::layout::Reply;
 use crate::numbers;
+use sheet::Lane;
 use sheet::Sheet;
 use sheet::Source;
-ghost use Prim.Native.Nat.{_<_};
+ghost use mathlib.Core.Path.{_≡_};
+ghost use Prim.Native.Nat.{_+_, _<_, _≤_};
 
-fn source_at(record: &Record, k: usize) -> Source
-    requires { ⌜ k < 8 ⌝ }
+fn lane_at(record: &Record, at: usize) -> Lane
+    requires { do ⌜ at + (← ⟦layout::LANE⟧) ≤ (← ⟦layout::RECORD_BYTES⟧) ⌝ }
 {
-    let at = layout::RULES + k * layout::SOURCE;
-    Source {
+    Lane {
         frames: numbers::four_at(record, at) as u32,
         repaired: numbers::four_at(record, at + 4) as u32,
         missed: numbers::four_at(record, at + 8) as u32,
@@ -22,52 +23,90 @@ fn source_at(record: &Record, k: usize) -> Source
     }
 }
 
-fn refusals_at(record: &Record, k: usize) -> u32
+// The caller's lane, then the responder's.
+fn source_at(record: &Record, sheet: usize, k: usize) -> Source
+    requires { do ⌜ sheet ≤ (← ⟦layout::RULES⟧) ⌝ }
+    requires { ⌜ k < 8 ⌝ }
+{
+    let at = sheet + k * layout::SOURCE;
+    Source {
+        caller: lane_at(record, at),
+        responder: lane_at(record, at + layout::LANE),
+    }
+}
+
+fn refusals_at(record: &Record, sheet: usize, k: usize) -> u32
+    requires { do ⌜ sheet ≤ (← ⟦layout::RULES⟧) ⌝ }
     requires { ⌜ k < 10 ⌝ }
 {
-    let at = layout::RULES + layout::REFUSALS + k * layout::COUNT;
+    let at = sheet + layout::REFUSALS + k * layout::COUNT;
     numbers::four_at(record, at) as u32
 }
 
-fn sheet_of(record: &Record) -> Sheet {
-    let sources = [
-        source_at(record, 0),
-        source_at(record, 1),
-        source_at(record, 2),
-        source_at(record, 3),
-        source_at(record, 4),
-        source_at(record, 5),
-        source_at(record, 6),
-        source_at(record, 7),
-    ];
-    let refusals = [
-        refusals_at(record, 0),
-        refusals_at(record, 1),
-        refusals_at(record, 2),
-        refusals_at(record, 3),
-        refusals_at(record, 4),
-        refusals_at(record, 5),
-        refusals_at(record, 6),
-        refusals_at(record, 7),
-        refusals_at(record, 8),
-        refusals_at(record, 9),
-    ];
+// The sheet that starts at a place, which is 0 or behind the rules: its sources, and its counts.
+fn sources_of(record: &Record, sheet: usize) -> [Source; 8]
+    requires { do ⌜ sheet ≤ (← ⟦layout::RULES⟧) ⌝ }
+{
+    [
+        source_at(record, sheet, 0),
+        source_at(record, sheet, 1),
+        source_at(record, sheet, 2),
+        source_at(record, sheet, 3),
+        source_at(record, sheet, 4),
+        source_at(record, sheet, 5),
+        source_at(record, sheet, 6),
+        source_at(record, sheet, 7),
+    ]
+}
+
+fn refusals_of(record: &Record, sheet: usize) -> [u32; 10]
+    requires { do ⌜ sheet ≤ (← ⟦layout::RULES⟧) ⌝ }
+{
+    [
+        refusals_at(record, sheet, 0),
+        refusals_at(record, sheet, 1),
+        refusals_at(record, sheet, 2),
+        refusals_at(record, sheet, 3),
+        refusals_at(record, sheet, 4),
+        refusals_at(record, sheet, 5),
+        refusals_at(record, sheet, 6),
+        refusals_at(record, sheet, 7),
+        refusals_at(record, sheet, 8),
+        refusals_at(record, sheet, 9),
+    ]
+}
+
+fn sheet_of(record: &Record, sheet: usize) -> Sheet
+    requires { do ⌜ sheet ≤ (← ⟦layout::RULES⟧) ⌝ }
+{
+    let sources = sources_of(record, sheet);
+    let refusals = refusals_of(record, sheet);
     Sheet { sources, refusals }
 }
 
-// Puts source k. Its last counter is 0 where it was not heard.
+// Puts a lane, and answers the place after it. The last counter is 0 where the lane was not heard.
+fn put_lane(reply: &mut Reply, at: usize, lane: Lane) -> usize
+    requires { do ⌜ at + (← ⟦layout::LANE⟧) ≤ (← ⟦layout::REPLY_BYTES⟧) ⌝ }
+    ensures { λ r. do ⌜ r ≡ at + (← ⟦layout::LANE⟧ .entry) ⌝ }
+{
+    let next = numbers::put_four(reply, at, lane.frames);
+    let next = numbers::put_four(reply, next, lane.repaired);
+    let next = numbers::put_four(reply, next, lane.missed);
+    let next = numbers::put_four(reply, next, lane.repeats);
+    if lane.heard {
+        let next = numbers::put_byte(reply, next, 1);
+        return numbers::put_byte(reply, next, lane.last);
+    }
+    at + layout::LANE
+}
+
 fn put_source(reply: &mut Reply, k: usize, source: Source)
     requires { ⌜ k < 8 ⌝ }
 {
-    let at = layout::SHEET_AFTER + k * layout::SOURCE;
-    let next = numbers::put_four(reply, at, source.frames);
-    let next = numbers::put_four(reply, next, source.repaired);
-    let next = numbers::put_four(reply, next, source.missed);
-    let next = numbers::put_four(reply, next, source.repeats);
-    if source.heard {
-        let next = numbers::put_byte(reply, next, 1);
-        numbers::put_byte(reply, next, source.last);
-    }
+    let caller = source.caller;
+    let responder = source.responder;
+    let next = put_lane(reply, layout::SHEET_AFTER + k * layout::SOURCE, caller);
+    put_lane(reply, next, responder);
 }
 
 fn put_refusals(reply: &mut Reply, k: usize, count: u32)
@@ -104,9 +143,25 @@ pub fn sheet_reply(record: &Record, reply: &mut Reply) {
     let mut space = [0u8; layout::PAYLOAD_ROOM];
     let payload = numbers::payload_at(record, layout::SHEETS_RULE, &mut space);
     let header = numbers::part(record, layout::SHEETS_HEADER, layout::SHEETS_RULE);
-    let offered = sheet::offer(sheet_of(record), frames::rules_of(record), header, payload);
+    let offered = sheet::offer(
+        sheet_of(record, layout::RULES),
+        frames::rules_of(record),
+        header,
+        payload,
+    );
     let read = offered.read;
     let after = offered.sheet;
     frames::put_read(reply, read);
     put_sheet(reply, after);
+}
+
+// The lanes of a source, and the sums over both.
+pub fn source_reply(record: &Record, reply: &mut Reply) {
+    let display = sheet::display_of(sheet_of(record, 0), record[layout::SOURCES_NUMBER]);
+    let caller = display.caller;
+    let responder = display.responder;
+    let next = put_lane(reply, 0, caller);
+    let next = put_lane(reply, next, responder);
+    let next = numbers::put_eight(reply, next, display.frames);
+    numbers::put_eight(reply, next, display.repaired);
 }

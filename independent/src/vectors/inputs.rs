@@ -36,6 +36,7 @@ pub(super) fn mixture(kind: Kind, seed: u64) -> Vec<Vec<u8>> {
         Kind::Rows => row_inputs(rng),
         Kind::Shown => shown_inputs(rng),
         Kind::Sheets => sheets::inputs(rng),
+        Kind::Sources => sheets::source_inputs(rng),
         Kind::Stored => stored::inputs(seed),
     }
 }

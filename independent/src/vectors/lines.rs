@@ -26,6 +26,7 @@ pub(super) fn line(kind: Kind, reply: &[u8]) -> String {
             bits => format!("{bits:016x}"),
         }),
         Kind::Sheets => sheet_line(&mut reply),
+        Kind::Sources => source_line(&mut reply),
         Kind::Stored => unreachable!("a stored record has the kind of what it holds"),
     }
 }
@@ -103,17 +104,34 @@ fn page_line(reply: &mut Bytes) -> String {
     line
 }
 
+/// Adds the numbers of a caller's lane and of a responder's.
+fn add_source(line: &mut String, reply: &mut Bytes) {
+    for _ in 0..2 {
+        for _ in 0..4 {
+            add(line, reply.u32());
+        }
+        match (reply.u8(), reply.u8()) {
+            (0, _) => add(line, "-"),
+            (_, last) => add(line, last),
+        }
+    }
+}
+
+/// Both lanes, and the sums of frames and of repaired bits.
+fn source_line(reply: &mut Bytes) -> String {
+    let mut line = String::from("source");
+    add_source(&mut line, reply);
+    for _ in 0..2 {
+        add(&mut line, reply.number(8));
+    }
+    line
+}
+
 fn sheet_line(reply: &mut Bytes) -> String {
     let answer = reply.take(Kind::Headers.reply_bytes());
     let mut line = heard_line(&mut Bytes(answer));
     for _ in 0..SOURCES {
-        for _ in 0..4 {
-            add(&mut line, reply.u32());
-        }
-        match (reply.u8(), reply.u8()) {
-            (0, _) => add(&mut line, "-"),
-            (_, last) => add(&mut line, last),
-        }
+        add_source(&mut line, reply);
     }
     for _ in 0..COUNTS {
         add(&mut line, reply.u32());

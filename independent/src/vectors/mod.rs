@@ -33,11 +33,12 @@ pub enum Kind {
     Rows,
     Shown,
     Sheets,
+    Sources,
     Stored,
 }
 
 /// All kinds with their names, in the order that numbers them in `stored`.
-pub const KINDS: [(&str, Kind); 12] = [
+pub const KINDS: [(&str, Kind); 13] = [
     ("words", Kind::Words),
     ("encode", Kind::Encode),
     ("crc13", Kind::Crc13),
@@ -49,6 +50,7 @@ pub const KINDS: [(&str, Kind); 12] = [
     ("rows", Kind::Rows),
     ("shown", Kind::Shown),
     ("sheets", Kind::Sheets),
+    ("sources", Kind::Sources),
     ("stored", Kind::Stored),
 ];
 
@@ -56,7 +58,7 @@ pub const KINDS: [(&str, Kind); 12] = [
 pub const DEFAULT_SEED: u64 = 1;
 
 /// The sizes of a record and of a reply, in the order of the kinds; a `stored` record has the sizes of what it holds.
-const SIZES: [(usize, usize); 11] = [
+const SIZES: [(usize, usize); 12] = [
     (2, 12),
     (1, 3),
     (2_049, 4),
@@ -67,7 +69,8 @@ const SIZES: [(usize, usize); 11] = [
     (1_102, 80),
     (36, 75),
     (20, 17),
-    (402, 244),
+    (546, 388),
+    (329, 52),
 ];
 
 impl Kind {

@@ -3,7 +3,7 @@
 use super::bytes::{put, Bytes};
 use super::frame::{PayloadRule, HEADER_ROOM, PAYLOAD_ROOM};
 use super::inputs::PAGE_ROOM;
-use super::sheets::{put_sheet, take_sheet};
+use super::sheets::{put_sheet, put_source, take_sheet};
 use super::Kind;
 use crate::air::AIR_BITS;
 use crate::crc::crc13;
@@ -69,6 +69,13 @@ pub(super) fn reply(kind: Kind, input: &[u8]) -> Vec<u8> {
         Kind::Rows => rows_reply(&mut input, &mut out),
         Kind::Shown => shown_reply(&mut input, &mut out),
         Kind::Sheets => sheet_reply(&mut input, &mut out),
+        Kind::Sources => {
+            let sheet = take_sheet(&mut input);
+            let source = sheet.source(input.u8().into());
+            put_source(&source, &mut out);
+            put(&mut out, 8, source.accepted());
+            put(&mut out, 8, source.repaired());
+        }
         Kind::Stored => unreachable!("a stored record has the kind of what it holds"),
     }
     out.resize(kind.reply_bytes(), 0);

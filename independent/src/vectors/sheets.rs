@@ -1,4 +1,4 @@
-//! Sheets in records and replies, and the mixture of `sheets`.
+//! Sheets in records and replies, and the mixture of `sheets` and of `sources`.
 
 use super::bytes::{put, Bytes};
 use super::frame::{fresh_header, light_damage, Frame, PayloadRule};
@@ -7,20 +7,27 @@ use crate::header::{Field, FIELDS, WIDTHS};
 use crate::rng::Rng;
 use crate::rules::{Rules, LARGEST_LIMIT, USUAL_LIMIT};
 use crate::sample::flip_some;
-use crate::sheet::{Sheet, Source, COUNTS, FULL, SOURCES};
+use crate::sheet::{Lane, Sheet, Source, COUNTS, FULL, SOURCES};
 
 /// Puts a sheet: its sources, then its counts.
 pub(super) fn put_sheet(sheet: &Sheet, out: &mut Vec<u8>) {
     for source in &sheet.sources {
-        put(out, 4, source.accepted);
-        put(out, 4, source.repaired);
-        put(out, 4, source.missed);
-        put(out, 4, source.repeats);
-        put(out, 1, source.last.is_some());
-        put(out, 1, source.last.unwrap_or(0));
+        put_source(source, out);
     }
     for count in sheet.refused {
         put(out, 4, count);
+    }
+}
+
+/// Puts a source: the caller's lane, then the responder's.
+pub(super) fn put_source(source: &Source, out: &mut Vec<u8>) {
+    for lane in [source.caller, source.responder] {
+        put(out, 4, lane.accepted);
+        put(out, 4, lane.repaired);
+        put(out, 4, lane.missed);
+        put(out, 4, lane.repeats);
+        put(out, 1, lane.last.is_some());
+        put(out, 1, lane.last.unwrap_or(0));
     }
 }
 
@@ -28,18 +35,31 @@ pub(super) fn put_sheet(sheet: &Sheet, out: &mut Vec<u8>) {
 pub(super) fn take_sheet(input: &mut Bytes) -> Sheet {
     let mut sheet = Sheet::new();
     for source in &mut sheet.sources {
-        *source = Source {
-            accepted: input.u32(),
-            repaired: input.u32(),
-            missed: input.u32(),
-            repeats: input.u32(),
-            last: None,
-        };
-        let (heard, last) = (input.u8(), input.u8());
-        source.last = (heard == 1).then_some(last);
+        *source = take_source(input);
     }
     sheet.refused.fill_with(|| input.u32());
     sheet
+}
+
+/// A source of a record.
+fn take_source(input: &mut Bytes) -> Source {
+    Source {
+        caller: take_lane(input),
+        responder: take_lane(input),
+    }
+}
+
+fn take_lane(input: &mut Bytes) -> Lane {
+    let mut lane = Lane {
+        accepted: input.u32(),
+        repaired: input.u32(),
+        missed: input.u32(),
+        repeats: input.u32(),
+        last: None,
+    };
+    let (heard, last) = (input.u8(), input.u8());
+    lane.last = (heard == 1).then_some(last);
+    lane
 }
 
 /// Sheets of five sorts: new, small, about to be full by so many, with counts at their limit, and with sums past 32 bits.
@@ -49,8 +69,8 @@ fn made_up(rng: &mut Rng) -> Sheet {
     if sort == 0 {
         return sheet;
     }
-    for source in &mut sheet.sources {
-        *source = Source {
+    for lane in lanes(&mut sheet) {
+        *lane = Lane {
             accepted: rng.below(1_000),
             repaired: rng.below(1_000),
             missed: rng.below(1_000),
@@ -71,19 +91,28 @@ fn made_up(rng: &mut Rng) -> Sheet {
             sheet.refused[count] = total - sheet.offered() as u32;
         }
         3 => {
-            for source in &mut sheet.sources {
-                source.repaired = u32::MAX - rng.below(20);
-                source.missed = u32::MAX - rng.below(20);
-                source.repeats = u32::MAX - rng.below(20);
+            for lane in lanes(&mut sheet) {
+                lane.repaired = u32::MAX - rng.below(20);
+                lane.missed = u32::MAX - rng.below(20);
+                lane.repeats = u32::MAX - rng.below(20);
             }
         }
         4 => {
-            sheet.sources[rng.below(SOURCES as u32) as usize].accepted = u32::MAX;
+            let lane = rng.below(2 * SOURCES as u32) as usize;
+            lanes(&mut sheet)[lane].accepted = u32::MAX;
             sheet.refused[rng.below(COUNTS as u32) as usize] = u32::MAX;
         }
         _ => {}
     }
     sheet
+}
+
+/// Every lane of a sheet, the caller's of a source before the responder's.
+pub(super) fn lanes(sheet: &mut Sheet) -> Vec<&mut Lane> {
+    let sources = sheet.sources.iter_mut();
+    sources
+        .flat_map(|source| [&mut source.caller, &mut source.responder])
+        .collect()
 }
 
 /// Made-up sheets, each offered a frame that is accepted about three times in five.
@@ -93,6 +122,28 @@ pub(super) fn inputs(rng: &mut Rng) -> Vec<Vec<u8>> {
         let sheet = made_up(rng);
         let frame = offered(rng);
         inputs.extend(frame.sheet_input(&sheet));
+    }
+    inputs
+}
+
+/// One input of `sources`.
+pub(super) fn source_input(sheet: &Sheet, source: u8) -> Vec<u8> {
+    let mut record = Vec::new();
+    put_sheet(sheet, &mut record);
+    put(&mut record, 1, source);
+    record
+}
+
+/// Made-up sheets, each asked for a source that has a record four times in five.
+pub(super) fn source_inputs(rng: &mut Rng) -> Vec<Vec<u8>> {
+    let mut inputs = Vec::new();
+    for _ in 0..500 {
+        let sheet = made_up(rng);
+        let source = match rng.below(5) {
+            0 => rng.below(256),
+            _ => rng.below(SOURCES as u32),
+        };
+        inputs.push(source_input(&sheet, source as u8));
     }
     inputs
 }

@@ -22,7 +22,7 @@ struct Share {
 }
 
 /// The shares of the kinds, in the order that numbers them: all but `stored` itself.
-const SHARES: [(Kind, Share); 11] = [
+const SHARES: [(Kind, Share); 12] = [
     (Kind::Words, one_of(1, 0)),
     (Kind::Encode, one_of(1, 0)),
     (Kind::Crc13, one_of(7, 0)),
@@ -34,6 +34,7 @@ const SHARES: [(Kind, Share); 11] = [
     (Kind::Rows, one_of(3, 34)),
     (Kind::Shown, one_of(41, 1)),
     (Kind::Sheets, one_of(13, 8)),
+    (Kind::Sources, one_of(13, 0)),
 ];
 
 const fn one_of(every: usize, places: usize) -> Share {

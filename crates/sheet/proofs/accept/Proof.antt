@@ -14,8 +14,8 @@ mul-source c = search needs
 element-copy-out-source : tie.Need-element-copy-out-source
 element-copy-out-source c = search needs
 
-next-requires : tie.Need-next-requires
-next-requires c κs = search needs
+hear-requires : tie.Need-hear-requires
+hear-requires c κs = search needs
 
 mul-changed : tie.Need-mul-changed
 mul-changed c = search needs
@@ -33,7 +33,7 @@ accept-spec =
     cast-k
     mul-source
     element-copy-out-source
-    next-requires
+    hear-requires
     mul-changed
     element-set-from-changed
     returns)

@@ -1,14 +1,16 @@
 -- `sheet::accepted` meets its contract. Invariant: the frames of the sources before k are in the sum.
 -- Assumes nothing.
-use Prim.Native.Nat.{_-_}
+use Prim.Native.Nat.{_-_, _*_}
 use borrow.Author.Needs.{needs}
+use Rattle.sheet.specs.Records.{countLimit}
+use Rattle.sheet.specs.Lanes.{lanes, framesOf}
 use Rattle.sheet.specs.Sheets.{records, sourceAt, acceptedOf}
 use Rattle.sheet.proofs.Totals.{Summed, sum-starts, sum-fits, sum-goes-on, sum-ends, sum-small}
 use Rattle.sheet.proofs.accepted.Statement.{statement}
 use Rattle.sheet.proofs.accepted.Tie as tie
 
 abbrev Inv-loop : tie.InvT-loop
-Inv-loop sheet sum₀ k₀ sum k = Summed records (λ k. sourceAt sheet k .frames) k sum
+Inv-loop sheet sum₀ k₀ sum k = Summed records (lanes * countLimit) (λ k. framesOf (sourceAt sheet k)) k sum
 
 abbrev μ-loop : tie.MeasureT-loop
 μ-loop sheet sum₀ k₀ sum k = records - k
@@ -22,8 +24,8 @@ mul-source c = search needs
 element-copy-out-source : tie.Need-element-copy-out-source Inv-loop μ-loop
 element-copy-out-source c = search needs
 
-cast-sum : tie.Need-cast-sum Inv-loop μ-loop
-cast-sum c = search needs
+frames-requires : tie.Need-frames-requires Inv-loop μ-loop
+frames-requires c κs = search needs
 
 add-sum : tie.Need-add-sum Inv-loop μ-loop
 add-sum c = search (needs, sum-fits)
@@ -50,7 +52,7 @@ accepted-spec =
     loop-holds
     mul-source
     element-copy-out-source
-    cast-sum
+    frames-requires
     add-sum
     add-k
     loop-less

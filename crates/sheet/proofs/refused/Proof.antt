@@ -2,13 +2,14 @@
 -- Assumes nothing.
 use Prim.Native.Nat.{_-_}
 use borrow.Author.Needs.{needs}
+use Rattle.sheet.specs.Records.{countLimit}
 use Rattle.sheet.specs.Sheets.{refusalCounts, refusalsAt, refusedOf}
-use Rattle.sheet.proofs.Totals.{Summed, sum-starts, sum-fits, sum-goes-on, sum-ends, sum-small}
+use Rattle.sheet.proofs.Totals.{count-le, Summed, sum-starts, sum-fits, sum-goes-on, sum-ends, sum-small}
 use Rattle.sheet.proofs.refused.Statement.{statement}
 use Rattle.sheet.proofs.refused.Tie as tie
 
 abbrev Inv-loop : tie.InvT-loop
-Inv-loop sheet sum₀ k₀ sum k = Summed refusalCounts (refusalsAt sheet) k sum
+Inv-loop sheet sum₀ k₀ sum k = Summed refusalCounts countLimit (refusalsAt sheet) k sum
 
 abbrev μ-loop : tie.MeasureT-loop
 μ-loop sheet sum₀ k₀ sum k = refusalCounts - k
@@ -26,7 +27,7 @@ cast-sum : tie.Need-cast-sum Inv-loop μ-loop
 cast-sum c = search needs
 
 add-sum : tie.Need-add-sum Inv-loop μ-loop
-add-sum c = search (needs, sum-fits)
+add-sum c = search (needs, count-le, sum-fits)
 
 add-k : tie.Need-add-k Inv-loop μ-loop
 add-k c = search needs
@@ -35,7 +36,7 @@ loop-less : tie.Need-loop-less Inv-loop μ-loop
 loop-less c = search needs
 
 loop-again : tie.Need-loop-again Inv-loop μ-loop
-loop-again c = search (needs, sum-goes-on)
+loop-again c = search (needs, count-le, sum-goes-on)
 
 returns : tie.Need-returns Inv-loop μ-loop
 unfolding refusedOf

@@ -1,5 +1,6 @@
 //! Inputs that tell right from wrong where the mixture of a kind has few that do. They stand at its end.
 
+mod lanes;
 mod limits;
 mod patterns;
 
@@ -10,5 +11,6 @@ use crate::rng::Rng;
 pub(super) fn inputs(kind: Kind, seed: u64) -> Vec<Vec<u8>> {
     let mut inputs = patterns::inputs(kind, &mut Rng::new(seed));
     inputs.extend(limits::inputs(kind, &mut Rng::new(seed)));
+    inputs.extend(lanes::inputs(kind, &mut Rng::new(seed)));
     inputs
 }
