@@ -1,6 +1,6 @@
 //! S-NET air headers, power pages and the pass sheet.
 //!
-//! A second implementation of paper 01 and of requests b, f and m of paper 02, written from the papers
+//! A second implementation of paper 01 and of requests b, f, g and m of paper 02, written from the papers
 //! alone, so that two programs that share no thought can be compared line by line. It prefers the plain
 //! way over the quick one: words are repaired by trying all 32 valid words, checksums run bit by bit.
 //!
@@ -14,7 +14,7 @@
 //! | [`header`] | fields, CRC5, header read (20, 1 to 6, 21) and written (13 to 15), the worst word |
 //! | [`frame`] | header and payload together (7, 8) |
 //! | [`page`] | payload header, power page read (9 to 12) and written (18) |
-//! | [`shown`] | the shown value (16) |
+//! | [`shown`] | the shown value, with its third term (16) |
 //! | [`sheet`] | the pass sheet (17), what it counts, its lanes |
 //! | [`listing`] | the listing |
 //!

@@ -37,7 +37,7 @@ fn lines(kind: Kind) -> Vec<String> {
 const OTHERS: usize = 12;
 
 /// The size of a record of each kind, and of a reply.
-const SIZES: [usize; OTHERS] = [2, 1, 2_049, 65, 262, 20, 266, 1_102, 36, 20, 546, 329];
+const SIZES: [usize; OTHERS] = [2, 1, 2_049, 65, 262, 20, 266, 1_102, 36, 28, 546, 329];
 const REPLY_SIZES: [usize; OTHERS] = [12, 3, 4, 1, 60, 267, 60, 80, 75, 17, 388, 52];
 
 #[test]
@@ -272,7 +272,7 @@ fn stored_records_have_the_limits_of_their_kind() {
         has(Kind::Pages, 0, &length.to_be_bytes());
     }
     for spread in [0u16, 1, 32_767, 32_768, 65_535] {
-        has(Kind::Shown, 16, &spread.to_be_bytes());
+        has(Kind::Shown, 24, &spread.to_be_bytes());
     }
     let telling = [
         f64::from_bits(0x7FF8_0000_0000_0000),
@@ -283,8 +283,9 @@ fn stored_records_have_the_limits_of_their_kind() {
         f64::from_bits(1),
     ];
     for coefficient in telling {
-        has(Kind::Shown, 0, &coefficient.to_bits().to_be_bytes());
-        has(Kind::Shown, 8, &coefficient.to_bits().to_be_bytes());
+        for at in [0, 8, 16] {
+            has(Kind::Shown, at, &coefficient.to_bits().to_be_bytes());
+        }
     }
     // Light damage in one word; a burst of 42, or three flips in every word.
     let repaired = |flips: u32| {
@@ -293,6 +294,109 @@ fn stored_records_have_the_limits_of_their_kind() {
         lines.any(|line| line.split(' ').nth(18) == Some(&flips.to_string()))
     };
     assert!([0, 1, 2, 3, 42].into_iter().all(repaired));
+}
+
+/// Coefficients, spread and x of a record of `shown`.
+fn scaling_of(record: &[u8]) -> ([f64; 3], f64, i16) {
+    let eight = |at: usize| u64::from_be_bytes(record[at..][..8].try_into().unwrap());
+    let two = |at: usize| u16::from_be_bytes([record[at], record[at + 1]]);
+    let coefficients = [0, 8, 16].map(|at| f64::from_bits(eight(at)));
+    (coefficients, two(24).into(), two(26) as i16)
+}
+
+#[test]
+fn shown_has_every_x_of_the_17_rows() {
+    let mut seen = BTreeSet::new();
+    for record in inputs(Kind::Shown, DEFAULT_SEED).chunks(28) {
+        let (coefficients, spread, x) = scaling_of(record);
+        if coefficients.map(f64::to_bits) == [0.0, 1.0, 0.0].map(f64::to_bits) {
+            seen.insert((spread as u16, x));
+        }
+    }
+    for spread in [50, 1, 2, 12, 6, 8, 5, 256] {
+        assert!((i16::MIN..=i16::MAX).all(|x| seen.contains(&(spread, x))));
+    }
+}
+
+/// A wrong rule of the shown value, over coefficients, spread and x.
+type WrongRule = fn([f64; 3], f64, i16) -> f64;
+
+const WRONG_RULES: [(&str, WrongRule); 9] = [
+    ("c2 / y", |[c0, c1, c2], s, x| {
+        let y = f64::from(x) / s;
+        c0 + c1 * y + if x == 0 { 0.0 } else { c2 / y }
+    }),
+    ("c2 * (S / x)", |[c0, c1, c2], s, x| {
+        let x = f64::from(x);
+        c0 + c1 * (x / s) + if x == 0.0 { 0.0 } else { c2 * (s / x) }
+    }),
+    ("no third term at x = 0", |[c0, c1, c2], s, x| {
+        let y = f64::from(x) / s;
+        let two = c0 + c1 * y;
+        if x == 0 {
+            return two;
+        }
+        two + c2 * (1.0 / y)
+    }),
+    (
+        "the third term as it comes at x = 0",
+        |[c0, c1, c2], s, x| {
+            let y = f64::from(x) / s;
+            c0 + c1 * y + c2 * (1.0 / y)
+        },
+    ),
+    ("c2 * 0 at x = 0", |[c0, c1, c2], s, x| {
+        let y = f64::from(x) / s;
+        c0 + c1 * y + c2 * if x == 0 { 0.0 } else { 1.0 / y }
+    }),
+    ("from right to left", |[c0, c1, c2], s, x| {
+        let y = f64::from(x) / s;
+        c0 + (c1 * y + if x == 0 { 0.0 } else { c2 * (1.0 / y) })
+    }),
+    ("no third term where c2 is 0", |[c0, c1, c2], s, x| {
+        let y = f64::from(x) / s;
+        let two = c0 + c1 * y;
+        if c2 == 0.0 {
+            return two;
+        }
+        two + if x == 0 { 0.0 } else { c2 * (1.0 / y) }
+    }),
+    (
+        "the third product and sum rounded as one",
+        |[c0, c1, c2], s, x| {
+            let y = f64::from(x) / s;
+            let two = c0 + c1 * y;
+            if x == 0 {
+                return two + 0.0;
+            }
+            c2.mul_add(1.0 / y, two)
+        },
+    ),
+    ("the rule of paper 01", |[c0, c1, _], s, x| {
+        c0 + c1 * (f64::from(x) / s)
+    }),
+];
+
+#[test]
+fn stored_records_tell_the_shown_value_from_wrong_ones() {
+    let stored = stored();
+    let accepted = stored[Kind::Shown as usize]
+        .iter()
+        .filter(|v| v.reply[0] == 0);
+    let accepted: Vec<&Vector> = accepted.collect();
+    for (name, rule) in WRONG_RULES {
+        let differs = |vector: &&Vector| {
+            let (coefficients, spread, x) = scaling_of(&vector.record);
+            let value = rule(coefficients, spread, x);
+            let bits = if value.is_nan() {
+                u64::MAX
+            } else {
+                value.to_bits()
+            };
+            vector.reply[9..] != bits.to_be_bytes()
+        };
+        assert!(accepted.iter().any(differs), "{name}");
+    }
 }
 
 /// The limit that a record of `headers`, `frames` or `sheets` names.
@@ -500,6 +604,24 @@ fn replies_stand_byte_for_byte_as_told() {
     // one byte more keeps what it held
     (rows[10], rows[11 + 34]) = (35, 0xA7);
     assert_eq!(reply(Kind::Rows, 35 * 8), rows);
+}
+
+#[test]
+fn shown_values_stand_byte_for_byte_as_told() {
+    // c0 = 1, c1 = 3, c2 = 5, S = 4, x = 8: y = 2, and 1 + 6 + 2.5 is 9.5
+    let mut record = [1.0f64, 3.0, 5.0]
+        .map(|c| c.to_bits().to_be_bytes())
+        .concat();
+    record.extend([0, 4, 0, 8]);
+    let mut value = vec![0; 9];
+    value.extend(9.5f64.to_bits().to_be_bytes());
+    let compared = compare(Kind::Shown, &record, &value).unwrap();
+    assert_eq!(compared.differences, Vec::<String>::new());
+    // 16: S = 0
+    record[25] = 0;
+    let refused = [&[16][..], &[0; 16]].concat();
+    let compared = compare(Kind::Shown, &record, &refused).unwrap();
+    assert_eq!(compared.differences, Vec::<String>::new());
 }
 
 #[test]
@@ -715,7 +837,7 @@ fn stored_records_replies_and_lines_are_the_same_everywhere() {
     let text = lines(Kind::Stored).join("\n") + "\n";
     let replies = replies(Kind::Stored);
     assert!(bytes.len() <= 1_600_000 && replies.len() <= 1_400_000);
-    assert_eq!(hash(&bytes), 0xC026_1988_64A8_DE57);
-    assert_eq!(hash(text.as_bytes()), 0x081D_F8F3_1059_D191);
-    assert_eq!(hash(&replies), 0x4753_872D_9EC9_9CC2);
+    assert_eq!(hash(&bytes), 0x0EE7_DFFA_9857_4E58);
+    assert_eq!(hash(text.as_bytes()), 0xE490_D915_E011_8C21);
+    assert_eq!(hash(&replies), 0xA426_8EBA_27E7_98B3);
 }

@@ -68,14 +68,16 @@ pub const WRITES_ROOM: usize = 14;
 
 pub const ROWS_ROOM: usize = 34;
 
-// c0, c1, S and x of `shown`.
+// c0, c1, c2, S and x of `shown`.
 pub const C0: usize = 0;
 
 pub const C1: usize = 8;
 
-pub const SPREAD: usize = 16;
+pub const C2: usize = 16;
 
-pub const RAW: usize = 18;
+pub const SPREAD: usize = 24;
+
+pub const RAW: usize = 26;
 
 // A sheet: eight sources of two lanes, then ten counts of refusals. In a record of `sheets` the header follows it, in one of `sources`
 // the number of a source.

@@ -128,6 +128,7 @@ pub fn shown_reply(record: &Record, reply: &mut Reply) {
     let scaling = Scaling {
         c0: float_of(numbers::eight_at(record, layout::C0)),
         c1: float_of(numbers::eight_at(record, layout::C1)),
+        c2: float_of(numbers::eight_at(record, layout::C2)),
         spread: numbers::two_at(record, layout::SPREAD) as u32,
     };
     match page::shown(scaling, numbers::signed_at(record, layout::RAW)) {

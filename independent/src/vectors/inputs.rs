@@ -3,10 +3,10 @@
 use super::frame::{
     fresh_header, light_damage, sized, Frame, PayloadRule, BEYOND, PAYLOAD_ROOM, WIDEST,
 };
-use super::{sheets, stored, telling, Kind};
+use super::{sheets, shown, stored, telling, Kind};
 use crate::air::{AIR_BITS, WORDS};
 use crate::header::{largest, Field, Header, GIVEN, HEADER_BITS, LONGEST_PAYLOAD, WIDTHS};
-use crate::page::{EPS_ROWS, ROWS};
+use crate::page::ROWS;
 use crate::rng::Rng;
 use crate::rules::Rules;
 use crate::sample::{burst, flip_pattern, flip_some, LONGEST_BURST};
@@ -18,10 +18,13 @@ pub(super) const PAGE_ROOM: usize = 1_100;
 pub(super) fn inputs(kind: Kind, seed: u64) -> Vec<Vec<u8>> {
     let mut inputs = mixture(kind, seed);
     inputs.extend(telling::inputs(kind, seed));
+    if kind == Kind::Shown {
+        inputs.extend(shown::every_x());
+    }
     inputs
 }
 
-/// The inputs of a kind but for the telling ones at their end.
+/// The inputs of a kind but for the telling ones at their end, and for every x of `shown`.
 pub(super) fn mixture(kind: Kind, seed: u64) -> Vec<Vec<u8>> {
     let rng = &mut Rng::new(seed);
     match kind {
@@ -34,7 +37,7 @@ pub(super) fn mixture(kind: Kind, seed: u64) -> Vec<Vec<u8>> {
         Kind::Frames => frame_inputs(rng),
         Kind::Pages => pages(rng).iter().map(|p| sized(p, PAGE_ROOM)).collect(),
         Kind::Rows => row_inputs(rng),
-        Kind::Shown => shown_inputs(rng),
+        Kind::Shown => shown::mixture(rng),
         Kind::Sheets => sheets::inputs(rng),
         Kind::Sources => sheets::source_inputs(rng),
         Kind::Stored => stored::inputs(seed),
@@ -339,74 +342,6 @@ fn row_inputs(rng: &mut Rng) -> Vec<Vec<u8>> {
             record.extend((room as u16).to_be_bytes());
             inputs.push(record);
         }
-    }
-    inputs
-}
-
-/// The 17 rows' scalings over many x; all pairs of telling coefficients; coefficients by chance.
-fn shown_inputs(rng: &mut Rng) -> Vec<Vec<u8>> {
-    let mut inputs = Vec::new();
-    let mut push = |c0: u64, c1: u64, spread: u16, x: u16| {
-        let mut record = c0.to_be_bytes().to_vec();
-        record.extend(c1.to_be_bytes());
-        record.extend(spread.to_be_bytes());
-        record.extend(x.to_be_bytes());
-        inputs.push(record);
-    };
-    let mut spreads: Vec<u16> = EPS_ROWS.iter().map(|row| row.spread as u16).collect();
-    spreads.sort_unstable();
-    spreads.dedup();
-    for &spread in &spreads {
-        for x in (0..=u16::MAX).step_by(13).chain([0x7FFF, 0x8000, 0xFFFF]) {
-            push(0.0f64.to_bits(), 1.0f64.to_bits(), spread, x);
-        }
-    }
-    // 16, and the spreads beside it
-    for spread in [0, 1, 32_766, 32_767, 32_768, 32_769, 65_535] {
-        for x in [0, 1, 0x7FFF, 0x8000, 0xFFFF] {
-            push(0.0f64.to_bits(), 1.0f64.to_bits(), spread, x);
-        }
-    }
-    let telling = [
-        0.0,
-        -0.0,
-        1.0,
-        -1.0,
-        0.1,
-        -1.0 / 3.0,
-        1e6,
-        9_007_199_254_740_993.0,
-        f64::MAX,
-        f64::MIN,
-        1e304,
-        f64::MIN_POSITIVE,
-        1e-310,
-        f64::from_bits(1),
-        f64::INFINITY,
-        f64::NEG_INFINITY,
-        f64::from_bits(0x7FF8_0000_0000_0000),
-    ];
-    for c0 in telling {
-        for c1 in telling {
-            for (spread, x) in [(1, 0), (3, 1), (3, 0xFFFF), (50, 0x7FFF), (32_767, 0x8000)] {
-                push(c0.to_bits(), c1.to_bits(), spread, x);
-            }
-        }
-    }
-    // Coefficients of everyday size, then any bits at all.
-    for _ in 0..10_000 {
-        let everyday = |rng: &mut Rng| (f64::from(rng.next_u64() as i32) / 1_000.0).to_bits();
-        let (c0, c1) = (everyday(rng), everyday(rng));
-        push(
-            c0,
-            c1,
-            rng.within(1..=32_767) as u16,
-            rng.below(65_536) as u16,
-        );
-    }
-    for _ in 0..10_000 {
-        let (c0, c1) = (rng.next_u64(), rng.next_u64());
-        push(c0, c1, rng.below(40_000) as u16, rng.below(65_536) as u16);
     }
     inputs
 }

@@ -1,8 +1,8 @@
 //! Vectors: inputs that a program in another language answers too, so that the two can be compared.
 //!
 //! Each kind has a stream of inputs, a reply to each input and a line for each reply. README.md tells
-//! their format; `inputs.rs`, `sheets.rs` and `telling` say which inputs there are. A seed (1 where none is named)
-//! drives those that are left to chance.
+//! their format; `inputs.rs`, `sheets.rs`, `shown.rs` and `telling` say which inputs there are. A seed (1 where none
+//! is named) drives those that are left to chance.
 
 mod bytes;
 mod compare;
@@ -11,6 +11,7 @@ mod inputs;
 mod lines;
 mod replies;
 mod sheets;
+mod shown;
 mod stored;
 mod telling;
 
@@ -68,7 +69,7 @@ const SIZES: [(usize, usize); 12] = [
     (266, 60),
     (1_102, 80),
     (36, 75),
-    (20, 17),
+    (28, 17),
     (546, 388),
     (329, 52),
 ];

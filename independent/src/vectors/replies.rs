@@ -190,6 +190,7 @@ fn shown_reply(input: &mut Bytes, out: &mut Vec<u8>) {
     let scaling = Scaling {
         c0: f64::from_bits(input.number(8)),
         c1: f64::from_bits(input.number(8)),
+        c2: f64::from_bits(input.number(8)),
         spread: input.u16().into(),
     };
     match scaling.shown(input.u16() as i16) {

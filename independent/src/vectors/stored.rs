@@ -9,7 +9,7 @@ use std::collections::{BTreeMap, BTreeSet};
 use super::inputs::mixture;
 use super::lines::line;
 use super::replies::reply;
-use super::{telling, Kind};
+use super::{shown, telling, Kind};
 use crate::header::LONGEST_PAYLOAD;
 
 /// How much of a kind is taken.
@@ -32,7 +32,7 @@ const SHARES: [(Kind, Share); 12] = [
     (Kind::Frames, one_of(11, 16)),
     (Kind::Pages, one_of(23, 8)),
     (Kind::Rows, one_of(3, 34)),
-    (Kind::Shown, one_of(41, 1)),
+    (Kind::Shown, one_of(61, 1)),
     (Kind::Sheets, one_of(13, 8)),
     (Kind::Sources, one_of(13, 0)),
 ];
@@ -105,23 +105,7 @@ fn is_limit(kind: Kind, input: &[u8]) -> bool {
             lengths.contains(&two(0))
         }
         Kind::Rows => [33, 34, 35].contains(&two(34)),
-        Kind::Shown => {
-            let coefficient = |at: usize| f64::from_bits(bits(&input[at..at + 8]));
-            let (c0, c1) = (coefficient(0), coefficient(8));
-            let plain = c0.to_bits() == 0 && c1 == 1.0;
-            // Zero, subnormal, infinite, no number; spreads at and past their limits.
-            (!c0.is_normal() && !plain)
-                || !c1.is_normal()
-                || [0, 32_766, 32_767, 32_768, 32_769, 65_535].contains(&two(16))
-                || (two(16) == 1 && [0, 1, 0x7FFF, 0x8000, 0xFFFF].contains(&two(18)))
-        }
+        Kind::Shown => shown::is_limit(input),
         _ => false,
     }
-}
-
-/// Eight bytes as one number.
-fn bits(bytes: &[u8]) -> u64 {
-    bytes
-        .iter()
-        .fold(0, |number, &byte| number << 8 | u64::from(byte))
 }

@@ -4,11 +4,14 @@ mod lanes;
 mod limits;
 mod patterns;
 
-use super::Kind;
+use super::{shown, Kind};
 use crate::rng::Rng;
 
 /// The telling inputs of a kind; most kinds have none.
 pub(super) fn inputs(kind: Kind, seed: u64) -> Vec<Vec<u8>> {
+    if kind == Kind::Shown {
+        return shown::telling();
+    }
     let mut inputs = patterns::inputs(kind, &mut Rng::new(seed));
     inputs.extend(limits::inputs(kind, &mut Rng::new(seed)));
     inputs.extend(lanes::inputs(kind, &mut Rng::new(seed)));
