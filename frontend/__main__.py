@@ -38,10 +38,10 @@ def independent_binary():
 def list_command(words):
     import listing
 
-    options, files = taken(words, flags=("--names", "--strict"))
+    options, files = taken(words, flags=("--names", "--strict"), valued={"--edition": listing.EDITIONS})
     for name in files:
         listing.check(name)
-    return listing.list_all(list_words(), files, "names" in options, "strict" in options)
+    return listing.list_all(listing.with_options(list_words(), options), files, "names" in options)
 
 
 def explain_command(words):
@@ -55,10 +55,13 @@ def explain_command(words):
 
 
 def replay_command(words):
+    import listing
     import replay
 
-    season = replay.season_words(*taken(words, flags=replay.FLAGS, valued=replay.VALUED))
-    return replay.replay(list_words(), independent_binary(), season)
+    options, rest = taken(words, flags=replay.FLAGS, valued=replay.VALUED)
+    season = replay.season_words(options, rest)
+    run_list = listing.with_options(list_words(), options)
+    return replay.replay(run_list, independent_binary(), season, options.get("edition", listing.FLOWN))
 
 
 def bench_command(words):

@@ -36,7 +36,7 @@ def bench(list_words, independent, emulated):
 
 
 def listed(words, file):
-    if not list_one(words, "a pass", file, strict=False, stdout=subprocess.DEVNULL):
+    if not list_one(words, "a pass", file, stdout=subprocess.DEVNULL):
         raise Unusable("a pass could not be read")
 
 

@@ -8,6 +8,8 @@ from messages import DONE, FAILED, Failed, Unusable, reason, say, tell
 from running import run
 
 STANDARD_INPUT = "-"
+# the edition that counts where none is named, and the other one
+FLOWN, CORRECTED = EDITIONS = ("flown", "corrected")
 
 
 def check(name):
@@ -23,7 +25,14 @@ def check(name):
         raise Unusable(f"{name}: {reason(error)}") from error
 
 
-def list_all(words, files, names, strict):
+def with_options(words, options):
+    """The words that run `list`, with those that the options add."""
+    if options.get("edition", FLOWN) == CORRECTED:
+        words = [*words, "--edition", CORRECTED]
+    return [*words, "--strict"] if "strict" in options else words
+
+
+def list_all(words, files, names):
     """Lists the files in turn, each from a new sheet; answers the status."""
     status = DONE
     for name in files or [STANDARD_INPUT]:
@@ -31,28 +40,30 @@ def list_all(words, files, names, strict):
         if names:
             say(f"==> {shown} <==\n")
         if name == STANDARD_INPUT:
-            went_well = list_one(words, shown, None, strict)
+            went_well = list_one(words, shown, None)
         else:
             try:
                 file = open(name, "rb")
             except OSError as error:
                 raise Unusable(f"{name}: {reason(error)}") from error
             with file:
-                went_well = list_one(words, shown, file, strict)
+                went_well = list_one(words, shown, file)
         if not went_well:
             status = FAILED
     return status
 
 
-def list_one(words, shown, file, strict, **output):
+def list_one(words, shown, file, **output):
     """Lists one input; answers whether it was read to its end and, where that is asked, not cut.
 
     The program has no status of its own, so what it told says what happened.
     """
-    status, told = run(words + (["--strict"] if strict else []), "list", stdin=file, **output)
+    status, told = run(words, "list", stdin=file, **output)
     for line in told:
         if line.startswith("write: "):
             raise Failed(line)
+        if line.startswith("edition"):
+            raise Unusable(line)
         tell(f"{shown}: {line}")
     if status != 0:
         raise Unusable(f"list could not be run (status {status})")

@@ -10,7 +10,8 @@ class Help(Exception):
 def taken(words, flags=(), valued=()):
     """Splits words into options (a name without its dashes, and True or a value) and the rest.
 
-    `--` ends the options; `-` is none; a value follows as a word of its own or after `=`.
+    `--` ends the options; `-` is none; a value follows as a word of its own or after `=`. For each option with a value, `valued`
+    has the words that it can be, or none where any can.
     """
     options, rest = {}, []
     words = list(words)
@@ -26,12 +27,20 @@ def taken(words, flags=(), valued=()):
         elif word in flags:
             options[word[2:]] = True
         elif name in valued:
-            if not equals and not words:
-                raise Unusable(f"{name} takes a value")
-            options[name[2:]] = value if equals else words.pop(0)
+            if not equals:
+                value = words.pop(0) if words else ""
+            options[name[2:]] = value_of(name, value, valued[name])
         else:
             raise Unusable(f"no such option: {word}")
     return options, rest
+
+
+def value_of(name, value, choices):
+    """The value of an option: one of the choices where there are some, and not empty."""
+    if value and (not choices or value in choices):
+        return value
+    wanted = f"one of {', '.join(choices)}" if choices else "a value"
+    raise Unusable(f"{name} takes {wanted}" + (f", not {value}" if value else ""))
 
 
 def whole_number(word, most=2**64 - 1):

@@ -5,14 +5,13 @@ import os
 import re
 
 import leftovers
-from listing import list_one
+from listing import EDITIONS, list_one
 from messages import DONE, FAILED, Failed, Unusable, say
 from options import whole_number
 from running import run
 
 FLAGS = ("--clean", "--full", "--full-exact")
-VALUED = ("--payload", "--cut")
-CUTS = ("length", "lone", "header", "payload")
+VALUED = {"--edition": EDITIONS, "--payload": (), "--cut": ("length", "lone", "header", "payload")}
 LONGEST_PAYLOAD = 1023
 FULL_SHEET = 65535
 
@@ -24,8 +23,6 @@ def season_words(options, rest):
     words = [str(whole_number(word)) for word in rest]
     if "full" in options and "full-exact" in options:
         raise Unusable("--full and --full-exact exclude each other")
-    if options.get("cut", CUTS[0]) not in CUTS:
-        raise Unusable(f"--cut takes one of {', '.join(CUTS)}, not {options['cut']}")
     if "payload" in options:
         options = dict(options, payload=str(whole_number(options["payload"], LONGEST_PAYLOAD)))
     for name, value in options.items():
@@ -42,17 +39,17 @@ def made_by(independent, words, what, **files):
         raise Failed(f"{what} failed: {why}")
 
 
-def replay(list_words, independent, season):
-    """Makes a season, lists it twice and compares; answers the status."""
+def replay(list_words, independent, season, edition):
+    """Makes a season, lists it twice under its edition and compares; answers the status."""
     with leftovers.folder() as room:
         pass_, listed, expected = (os.path.join(room, name) for name in ("pass", "listed", "expected"))
         with open(pass_, "wb") as out:
             made_by(independent, ["season", *season], "making the season", stdout=out)
         with open(pass_, "rb") as file, open(listed, "wb") as out:
-            if not list_one(list_words, "the season", file, strict=False, stdout=out):
+            if not list_one(list_words, "the season", file, stdout=out):
                 return FAILED
         with open(pass_, "rb") as file, open(expected, "wb") as out:
-            made_by(independent, ["list"], "the independent listing", stdin=file, stdout=out)
+            made_by(independent, ["list", "--edition", edition], "the independent listing", stdin=file, stdout=out)
         return compare(listed, expected, int(season[1]))
 
 

@@ -16,12 +16,13 @@ or a file cannot be used.
 
 COMMANDS = {
     "list": """\
-usage: nolbreva list [--names] [--strict] [--] [FILE ..]
+usage: nolbreva list [--edition E] [--names] [--strict] [--] [FILE ..]
 
 The listing of standard input, or one listing for each file in turn; the file - is standard input.
 
-  --names     puts the line '==> NAME <==' before each listing
-  --strict    where a listing ends with `cut`, tells at which byte and why, and ends with status 1
+  --edition E    reads all frames under this edition: flown (S-NET; so where none is named) or corrected (SALSAT)
+  --names        puts the line '==> NAME <==' before each listing
+  --strict       where a listing ends with `cut`, tells at which byte and why, and ends with status 1
 """,
     "explain": """\
 usage: nolbreva explain [NUMBER [PLACE]]
@@ -30,11 +31,12 @@ What a refusal means, by its number and its place in a listing, as `explain 3 4`
 place, what its place is; without a number, all of docs/REFUSALS.md's table.
 """,
     "replay": """\
-usage: nolbreva replay SEED N [OPTION ..]
+usage: nolbreva replay [--edition E] SEED N [OPTION ..]
 
 Makes a season of N records by chance, the same for the same words, lists it by this program and by the independent one,
 and compares every line. Status 1 where they differ.
 
+  --edition E     makes and lists the season under this edition: flown (so where none is named) or corrected
   --payload L     all payloads have L bytes, 0 to 1023
   --clean         only frames that are accepted, with light damage
   --full          65536 short records in place of N: they fill a sheet, and the last one cuts

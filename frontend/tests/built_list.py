@@ -6,11 +6,14 @@ import subprocess
 import tempfile
 import unittest
 
+import builds
 from tests.repository import TOP
 
 NOLBREVA = os.path.join(TOP, "nolbreva")
 INDEPENDENT = os.path.join(TOP, "independent", "target", "release", "independent")
 PASS = os.path.join("examples", "pass")
+CORRECTED = ("--edition", "corrected")
+CORRECTED_PASS, CORRECTED_LISTING = (os.path.join("examples", "cases", f"corrected_pass.{end}") for end in ("in", "out"))
 CLOSED = ["sh", "-c", 'exec "$@" >&-', "sh"]
 
 
@@ -45,19 +48,43 @@ class Listings(unittest.TestCase):
         named = b"==> examples/pass <==\n" + listing + b"==> standard input <==\n" + listing
         self.assertEqual(run("list", "--names", PASS, "-", given=read(PASS)), (0, named, ""))
 
+    def test_the_corrected_edition(self):
+        given, listing = read(CORRECTED_PASS), read(CORRECTED_LISTING)
+        self.assertEqual(run("list", *CORRECTED, CORRECTED_PASS), (0, listing, ""))
+        for words in ([], ["--strict"], ["-"]):
+            self.assertEqual(run("list", *words, *CORRECTED, given=given), (0, listing, ""))
+        for words in ([], ["--edition", "flown"]):
+            status, out, told = run("list", *words, given=given)
+            self.assertEqual((status, told), (0, ""))
+            self.assertIn(b" accepted B radio 2 ", out)
+            self.assertNotIn(b"source", out)
+
+    def test_the_program_and_its_words(self):
+        program = builds.words_for_list(builds.list_program(TOP), os.uname().machine)
+        for words in (CORRECTED, (*CORRECTED, "--strict"), ("--strict", *CORRECTED)):
+            done = subprocess.run([*program, *words], input=read(CORRECTED_PASS), capture_output=True)
+            self.assertEqual((done.stdout, done.stderr), (read(CORRECTED_LISTING), b""))
+        for words in (("--edition", "salsat"), ("--strict", "--edition", "salsat")):
+            done = subprocess.run([*program, *words], input=read(CORRECTED_PASS), capture_output=True)
+            self.assertEqual((done.stdout, done.stderr[:7]), (b"", b"edition"))
+
     def test_strict(self):
-        whole = season("4", "7")
+        for edition in ((), CORRECTED):
+            self.cut_in_each_way(edition)
+
+    def cut_in_each_way(self, edition):
+        whole = season("4", "7", *edition)
         for cut, why in (
             ("length", "the length there is over 1,023"),
             ("lone", "too few bytes for a record"),
             ("header", "too few bytes for a record"),
             ("payload", "too few bytes for a record"),
         ):
-            given = season("4", "7", "--cut", cut)
-            status, plain, told = run("list", given=given)
+            given = season("4", "7", *edition, "--cut", cut)
+            status, plain, told = run("list", *edition, given=given)
             self.assertEqual((status, told), (0, ""))
             said = f"nolbreva: standard input: cut at byte {len(whole)}: {why}\n"
-            self.assertEqual(run("list", "--strict", given=given), (1, plain, said))
+            self.assertEqual(run("list", "--strict", *edition, given=given), (1, plain, said))
             self.assertIn(b"\ncut\n", plain)
 
     def test_strict_and_a_full_sheet(self):
@@ -100,13 +127,13 @@ class Listings(unittest.TestCase):
         self.assertEqual(run("list", first=["sh", "-c", 'exec "$@" <&-', "sh"]), (1, b"pass sheet\n", told))
 
     def test_replays(self):
+        full = b"65535 records, 65538 lines compared, no difference; a sheet takes 65535, and both cut the listing there\n"
         for words, said in (
             (("7", "300"), b"300 records, 302 lines compared, no difference\n"),
+            ((*CORRECTED, "7", "300"), b"300 records, 302 lines compared, no difference\n"),
             (("7", "20", "--cut", "header"), b"20 records, 23 lines compared, no difference; then both cut the listing\n"),
-            (
-                ("1", "1", "--full"),
-                b"65535 records, 65538 lines compared, no difference; a sheet takes 65535, and both cut the listing there\n",
-            ),
+            (("1", "1", "--full"), full),
+            ((*CORRECTED, "1", "1", "--full"), full),
             (
                 ("7", "66000", "--clean", "--payload", "0"),
                 b"65535 records, 65538 lines compared, no difference; a sheet takes 65535 of the 66000 records, and both cut the listing there\n",

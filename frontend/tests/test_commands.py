@@ -39,8 +39,10 @@ class Commands(unittest.TestCase):
     def test_what_is_not_understood(self):
         for words in ([], ["fly"], ["bench", "now"], ["replay", "1"], ["replay", "1", "2", "3"], ["replay", "1", "x"], ["replay", "-1", "1"],
                       ["replay", "1", "1", "--payload", "1024"], ["replay", "1", "1", "--payload"], ["replay", "1", "1", "--cut", "it"],
-                      ["replay", "1", "1", "--full", "--full-exact"], ["replay", "1", str(2**64)], ["explain", "x"], ["explain", "1", "2", "3"],
-                      ["help", "fly"], ["--version", "now"], ["list", "--bogus"], ["list", "examples/none"], ["list", "crates"]):
+                      ["replay", "1", "1", "--full", "--full-exact"], ["replay", "1", str(2**64)], ["replay", "--edition", "1", "1"],
+                      ["replay", "1", "1", "--edition"], ["explain", "x"], ["explain", "1", "2", "3"],
+                      ["help", "fly"], ["--version", "now"], ["list", "--bogus"], ["list", "--edition"], ["list", "--edition", "salsat"],
+                      ["list", "examples/none"], ["list", "crates"]):
             with self.subTest(words):
                 status, out, told = run(*words, cwd=TOP)
                 self.assertEqual((status, out), (2, ""))

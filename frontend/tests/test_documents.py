@@ -31,6 +31,11 @@ class Readme(unittest.TestCase):
         self.assertIn("\n\n    ./nolbreva list examples/pass\n", self.readme)
         self.assertIn(f"\n\n{quoted(read('examples', 'listing'))}\n", self.readme)
 
+    def test_the_example_of_the_corrected_edition(self):
+        pass_, listing = (os.path.join("examples", "cases", f"corrected_pass.{end}") for end in ("in", "out"))
+        self.assertIn(f"\n\n    ./nolbreva list --edition corrected {pass_}\n", self.readme)
+        self.assertIn(f"\n\n{quoted(read(listing))}\n", self.readme)
+
     def test_the_explanation(self):
         said = refusals.explain(refusals.read(TOP), 3, 4).rstrip()
         self.assertIn("    ./nolbreva explain 3 4\n", self.readme)

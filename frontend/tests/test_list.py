@@ -1,12 +1,13 @@
 """The command `list`, over a program that is a script."""
 
+import itertools
 import os
 import subprocess
 import unittest
 
 from tests.repository import Repository
 
-# Shows its word and its input, and tells what it finds in the file `told`.
+# Shows its words and its input, and tells what it finds in the file `told`.
 PROGRAM = '#!/bin/sh\necho "sheet $*"\ncat\nif [ -f told ]; then cat told >&2; fi\n'
 
 
@@ -47,6 +48,35 @@ class Lists(Repository):
         why = "cut at byte 5: too few bytes for a record\n"
         expected = (1, "sheet --strict\n1\nsheet --strict\n2\n", f"nolbreva: one: {why}nolbreva: two: {why}")
         self.assertEqual(self.listed("--strict", "one", "two"), expected)
+
+    def test_editions(self):
+        for words in (["--edition", "corrected", "one"], ["--edition=corrected", "one"], ["one", "--edition", "corrected"]):
+            self.assertEqual(self.listed(*words), (0, "sheet --edition corrected\n1\n", ""))
+        for words in (["--edition", "flown", "one"], ["--edition=corrected", "--edition=flown", "one"]):
+            self.assertEqual(self.listed(*words), (0, "sheet \n1\n", ""))
+
+    def test_an_edition_and_other_options_in_any_order(self):
+        expected = "==> one <==\nsheet --edition corrected --strict\n1\n"
+        for options in itertools.permutations((["--edition", "corrected"], ["--strict"], ["--names"], ["one"])):
+            self.assertEqual(self.listed(*itertools.chain(*options)), (0, expected, ""))
+
+    def test_a_word_that_is_no_edition(self):
+        takes = "nolbreva: --edition takes one of flown, corrected"
+        for words, word in (
+            (["--edition", "salsat", "one"], "salsat"),
+            (["--names", "one", "--edition=Corrected"], "Corrected"),
+            (["--edition", "one"], "one"),
+            (["--edition", "--strict", "one"], "--strict"),
+            (["--edition", "--", "one"], "--"),
+        ):
+            self.assertEqual(self.listed(*words), (2, "", f"{takes}, not {word}\n"))
+        for words in (["one", "--edition"], ["--edition=", "one"]):
+            self.assertEqual(self.listed(*words), (2, "", f"{takes}\n"))
+
+    def test_an_edition_that_the_program_refuses_ends_it(self):
+        self.write("told", "edition: flown or corrected\n")
+        expected = (2, "sheet --edition corrected\n1\n", "nolbreva: edition: flown or corrected\n")
+        self.assertEqual(self.listed("--edition", "corrected", "one", "two"), expected)
 
     def test_a_failed_read_goes_on_with_the_next_file(self):
         self.write("told", "read: Input/output error\n")

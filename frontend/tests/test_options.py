@@ -8,13 +8,14 @@ from options import Help, taken, whole_number
 
 class Options(unittest.TestCase):
     def taken(self, *words):
-        return taken(words, flags=("--flag",), valued=("--value",))
+        return taken(words, flags=("--flag",), valued={"--value": (), "--choice": ("left", "right")})
 
     def test_options_and_the_rest(self):
         self.assertEqual(self.taken(), ({}, []))
         self.assertEqual(self.taken("a", "--flag", "-", "b"), ({"flag": True}, ["a", "-", "b"]))
         self.assertEqual(self.taken("--value", "7", "a"), ({"value": "7"}, ["a"]))
         self.assertEqual(self.taken("--value=7", "--value=8=9"), ({"value": "8=9"}, []))
+        self.assertEqual(self.taken("--choice", "left", "a", "--choice=right"), ({"choice": "right"}, ["a"]))
 
     def test_the_end_of_options(self):
         self.assertEqual(self.taken("--flag", "--", "--flag", "--", "-h"), ({"flag": True}, ["--flag", "--", "-h"]))
@@ -25,9 +26,21 @@ class Options(unittest.TestCase):
                 self.taken("a", word, "--bogus")
 
     def test_what_is_no_option(self):
-        for words in (["--bogus"], ["-x"], ["--fla"], ["--flag=1"], ["--value"], ["--value=1", "--other=2"]):
-            with self.subTest(words), self.assertRaises(Unusable):
+        for words, why in (
+            (["--bogus"], "no such option: --bogus"),
+            (["-x"], "no such option: -x"),
+            (["--fla"], "no such option: --fla"),
+            (["--flag=1"], "no such option: --flag=1"),
+            (["--value=1", "--other=2"], "no such option: --other=2"),
+            (["--value"], "--value takes a value"),
+            (["--value="], "--value takes a value"),
+            (["--choice"], "--choice takes one of left, right"),
+            (["--choice", ""], "--choice takes one of left, right"),
+            (["--choice", "up"], "--choice takes one of left, right, not up"),
+        ):
+            with self.subTest(words), self.assertRaises(Unusable) as raised:
                 self.taken(*words)
+            self.assertEqual(str(raised.exception), why)
 
     def test_whole_numbers(self):
         self.assertEqual(whole_number("007"), 7)

@@ -14,10 +14,10 @@ SHEET = "pass sheet\n0 refused 4 6\n1 refused 4 6\nheard 2 accepted 0 refused 2\
 INDEPENDENT = """#!/bin/sh
 case $1 in
     season) if [ -f bad-season ]; then cat bad-season >&2; exit 1; fi; echo "$*" ;;
-    list) cat >/dev/null; cat expected ;;
+    list) cat >/dev/null; echo "$*" >expected-by; cat expected ;;
 esac
 """
-PROGRAM = "#!/bin/sh\ncat >season\ncat listed\nif [ -f told ]; then cat told >&2; fi\n"
+PROGRAM = "#!/bin/sh\necho list $* >listed-by\ncat >season\ncat listed\nif [ -f told ]; then cat told >&2; fi\n"
 
 
 class Replays(Repository):
@@ -33,11 +33,23 @@ class Replays(Repository):
         self.assert_nothing_left()
         return answer
 
+    def written(self, name):
+        with open(os.path.join(self.top, name), encoding="ascii") as file:
+            return file.read()
+
     def test_no_difference(self):
         self.assertEqual(self.replay()[:2], (0, "2 records, 4 lines compared, no difference\n"))
         self.assertEqual(self.replay("007", "2", "--cut=lone", "--clean")[0], 0)
-        with open(os.path.join(self.top, "season"), encoding="ascii") as file:
-            self.assertEqual(file.read(), "season 7 2 --cut lone --clean\n")
+        self.assertEqual(self.written("season"), "season 7 2 --cut lone --clean\n")
+
+    def test_editions(self):
+        for words, season, ours, theirs in (
+            (("7", "2"), "season 7 2", "list", "list --edition flown"),
+            (("--edition", "flown", "7", "2"), "season 7 2 --edition flown", "list", "list --edition flown"),
+            (("7", "--edition=corrected", "2"), "season 7 2 --edition corrected", "list --edition corrected", "list --edition corrected"),
+        ):
+            self.assertEqual(self.replay(*words)[0], 0)
+            self.assertEqual([self.written(name) for name in ("season", "listed-by", "expected-by")], [f"{season}\n", f"{ours}\n", f"{theirs}\n"])
 
     def test_a_difference(self):
         self.write("listed", SHEET.replace("1 refused 4 6", "1 refused 4 7"))
@@ -110,7 +122,7 @@ class Figures(unittest.TestCase):
 class Seasons(unittest.TestCase):
     def test_words(self):
         self.assertEqual(replay.season_words({"payload": "010", "clean": True}, ["1", "2"]), ["1", "2", "--payload", "10", "--clean"])
-        for options, rest in (({}, ["1"]), ({"cut": "it"}, ["1", "2"]), ({"payload": "1024"}, ["1", "2"]), ({"full": True, "full-exact": True}, ["1", "2"])):
+        for options, rest in (({}, ["1"]), ({"payload": "1024"}, ["1", "2"]), ({"full": True, "full-exact": True}, ["1", "2"])):
             with self.subTest(options), self.assertRaises(Unusable):
                 replay.season_words(options, rest)
 

@@ -4,7 +4,11 @@
 use std::io::{self, Write};
 
 use crate::header::{Field, Header};
+use crate::rules::Edition;
 use crate::sample::{burst, dress_as_page, flip_pattern, seal, Record};
+
+/// The four satellites are S-NET's.
+const EDITION: Edition = Edition::Flown;
 
 /// Writes the example pass.
 pub fn write_example(out: &mut impl Write) -> io::Result<()> {
@@ -43,9 +47,9 @@ fn sent(src_id: u16, fr_cnt_tx: u16, length: usize) -> Record {
 fn with(src_id: u16, fr_cnt_tx: u16, length: usize, change: impl Fn(&mut Header)) -> Record {
     let payload = payload(length);
     let mut header = header(src_id, fr_cnt_tx);
-    seal(&mut header, &payload);
+    seal(EDITION, &mut header, &payload);
     change(&mut header);
-    header[Field::Crc5] = header.crc5();
+    header[Field::Crc5] = header.crc5(EDITION);
     Record::new(&header, payload)
 }
 

@@ -5,7 +5,7 @@ use std::ops::{Index, IndexMut};
 use crate::air::{air_of, words_of, AIR_BITS, WORDS};
 use crate::crc::{crc13, CRC5};
 use crate::refusal::Refusal;
-use crate::rules::{Rules, LARGEST_LIMIT};
+use crate::rules::{Edition, Rules, LARGEST_LIMIT};
 use crate::word::{data, encode, repair, DATA_BITS};
 
 /// The fields in the paper's order; a field's number is its place in this list.
@@ -43,19 +43,17 @@ pub const HEADER_BITS: usize = 70;
 /// The fields that the writer is given, SrcId to UdFl1: it "works out PduLength and both checksums".
 pub const GIVEN: usize = Field::PduLength as usize;
 
-/// The largest SrcId of an S-NET radio.
-pub const LARGEST_SRC_ID: u16 = 7;
-
 /// The largest AiTypeSrc.
 pub const LARGEST_AI_TYPE_SRC: u16 = 3;
 
 /// The longest payload: PduLength has ten bits.
 pub const LONGEST_PAYLOAD: usize = 1_023;
 
-/// The largest value of a field: "widths bound it, also SrcId to 7 and AiTypeSrc to 3".
-pub const fn largest(field: usize) -> u16 {
+/// The largest value of a field: "widths bound it, also SrcId to 7 and AiTypeSrc to 3". Under the corrected edition "the
+/// writer allows 0 to 127" as SrcId.
+pub const fn largest(edition: Edition, field: usize) -> u16 {
     if field == Field::SrcId as usize {
-        LARGEST_SRC_ID
+        edition.largest_src_id()
     } else if field == Field::AiTypeSrc as usize {
         LARGEST_AI_TYPE_SRC
     } else {
@@ -118,17 +116,22 @@ impl Header {
     }
 
     /// The CRC5 that belongs to these values.
-    pub fn crc5(&self) -> u16 {
-        flown_crc5(self.to_bits())
+    pub fn crc5(&self, edition: Edition) -> u16 {
+        crc5(edition, self.to_bits())
     }
 }
 
-/// Header bits 32 to 35, which "count as zero in CRC5": the low two bits of AiTypeDst, and DfcId.
+/// Header bits 32 to 35, which "count as zero in CRC5" under the flown rule: the low two bits of AiTypeDst, and DfcId.
 const FLOWN_LOST: u128 = 0b1111 << (HEADER_BITS - 36);
 
-/// CRC5 under the flown rule, from header bits 0 to 64 of the 70.
-pub fn flown_crc5(bits: u128) -> u16 {
-    CRC5.of(&crc5_bytes(bits & !FLOWN_LOST))
+/// CRC5 from header bits 0 to 64 of the 70.
+pub fn crc5(edition: Edition, bits: u128) -> u16 {
+    let counted = match edition {
+        Edition::Flown => bits & !FLOWN_LOST,
+        // "Bits 32 to 35 count like the others."
+        Edition::Corrected => bits,
+    };
+    CRC5.of(&crc5_bytes(counted))
 }
 
 /// "Header bits 0 to 64 followed by 1011011 make nine bytes."
@@ -202,13 +205,13 @@ pub fn read_header(rules: Rules, air: &[u8]) -> Result<Heard, Refusal> {
         return Err(Refusal::new(21, flips as usize));
     }
     // 4: "CRC5 differs", CRC5 worked out
-    let worked_out = flown_crc5(bits);
+    let worked_out = crc5(rules.edition, bits);
     if header[Field::Crc5] != worked_out {
         return Err(Refusal::new(4, worked_out));
     }
-    // 5: "SrcId above 7", SrcId
+    // 5: "SrcId above 7", SrcId; under the corrected edition "check 5 isn't made"
     let src_id = header[Field::SrcId];
-    if src_id > LARGEST_SRC_ID {
+    if rules.edition == Edition::Flown && src_id > Edition::Flown.largest_src_id() {
         return Err(Refusal::new(5, src_id));
     }
     // 6: "AiTypeSrc above 3", AiTypeSrc
@@ -220,14 +223,19 @@ pub fn read_header(rules: Rules, air: &[u8]) -> Result<Heard, Refusal> {
 }
 
 /// Writes the header of a payload to the first 210 bytes of `out`; "bytes past 210 keep what they held".
-pub fn write_header(given: &[u16; GIVEN], payload: &[u8], out: &mut [u8]) -> Result<(), Refusal> {
+pub fn write_header(
+    edition: Edition,
+    given: &[u16; GIVEN],
+    payload: &[u8],
+    out: &mut [u8],
+) -> Result<(), Refusal> {
     // 13: "output under 210", its length
     let room = out.len();
     let Some(out) = out.first_chunk_mut::<AIR_BITS>() else {
         return Err(Refusal::new(13, room));
     };
     // 14: "a field out of range", the lowest such field's number
-    if let Some(field) = (0..GIVEN).find(|&field| given[field] > largest(field)) {
+    if let Some(field) = (0..GIVEN).find(|&field| given[field] > largest(edition, field)) {
         return Err(Refusal::new(14, field));
     }
     // 15: "payload over 1,023", its length
@@ -238,7 +246,7 @@ pub fn write_header(given: &[u16; GIVEN], payload: &[u8], out: &mut [u8]) -> Res
     header.values[..GIVEN].copy_from_slice(given);
     header[Field::PduLength] = payload.len() as u16;
     header[Field::Crc13] = crc13(payload);
-    header[Field::Crc5] = header.crc5();
+    header[Field::Crc5] = header.crc5(edition);
     *out = header.to_air();
     Ok(())
 }
@@ -247,6 +255,7 @@ pub fn write_header(given: &[u16; GIVEN], payload: &[u8], out: &mut [u8]) -> Res
 mod tests {
     use super::*;
     use crate::rng::Rng;
+    use crate::rules::EDITIONS;
 
     /// Header bit n, as the paper numbers them.
     fn bit(n: usize) -> u128 {
@@ -260,15 +269,33 @@ mod tests {
 
     #[test]
     fn marked_crc5_examples() {
-        assert_eq!(flown_crc5(0), 6);
-        assert_eq!(flown_crc5(bit(32)), 6);
+        assert_eq!(crc5(Edition::Flown, 0), 6);
+        assert_eq!(crc5(Edition::Flown, bit(32)), 6);
+        // Beside them, worked by hand: bit 32 is the first of byte 4, after which 39 more bits go in.
+        assert_eq!(crc5(Edition::Corrected, 0), 6);
+        let worked = (0..39).fold(0x15_u16, |r, _| (r << 1 & 0x1F) ^ ((r >> 4) * 0x15));
+        assert_eq!(crc5(Edition::Corrected, bit(32)), 6 ^ worked);
+        assert_eq!(crc5(Edition::Corrected, bit(32)), 28);
     }
 
     #[test]
-    fn crc5_sees_bits_0_to_64_but_not_32_to_35() {
+    fn crc5_sees_bits_0_to_64_and_the_flown_one_not_32_to_35() {
         for n in 0..HEADER_BITS {
-            let seen = n < 65 && !(32..36).contains(&n);
-            assert_eq!(flown_crc5(bit(n)) != 6, seen, "bit {n}");
+            let lost = (32..36).contains(&n);
+            let seen = EDITIONS.map(|edition| crc5(edition, bit(n)) != 6);
+            assert_eq!(seen, [n < 65 && !lost, n < 65], "bit {n}");
+        }
+    }
+
+    #[test]
+    fn the_editions_differ_exactly_where_a_bit_of_32_to_35_is_set() {
+        let mut rng = Rng::new(21);
+        for n in 0..4_000 {
+            let others = u128::from(rng.next_u64()) << 6 | u128::from(rng.below(64));
+            let lost = (n % 16) << (HEADER_BITS - 36);
+            let bits = others & !FLOWN_LOST | lost;
+            let [flown, corrected] = EDITIONS.map(|edition| crc5(edition, bits));
+            assert_eq!(flown != corrected, lost != 0);
         }
     }
 
@@ -287,15 +314,19 @@ mod tests {
         assert_eq!(crc5_bytes(0b11111), crc5_bytes(0));
     }
 
-    /// The nine bytes as Table 4 of 001 puts them together, with Table 5 in the place of byte 4.
-    fn bytes_of_table_4(header: &Header) -> [u8; 9] {
+    /// The nine bytes as Table 4 of 001 puts them together; Table 5 has the flown byte 4, without AiTypeDst and DfcId.
+    fn bytes_of_table_4(edition: Edition, header: &Header) -> [u8; 9] {
         let of = |field| header[field];
+        let lost = match edition {
+            Edition::Flown => 0,
+            Edition::Corrected => of(Field::AiTypeDst) << 6 | of(Field::DfcId) << 4,
+        };
         [
             of(Field::SrcId) << 1 | of(Field::DstId) >> 6,
             of(Field::DstId) << 2 | of(Field::FrCntTx) >> 2,
             of(Field::FrCntTx) << 6 | of(Field::FrCntRx) << 2 | of(Field::Snr) >> 2,
             of(Field::Snr) << 6 | of(Field::AiTypeSrc) << 2 | of(Field::AiTypeDst) >> 2,
-            of(Field::Caller) << 3
+            lost | of(Field::Caller) << 3
                 | of(Field::Arq) << 2
                 | of(Field::PduTypeId) << 1
                 | of(Field::BchRq),
@@ -308,14 +339,18 @@ mod tests {
     }
 
     #[test]
-    fn flown_rule_takes_the_bytes_of_tables_4_and_5() {
+    fn both_rules_take_the_bytes_of_tables_4_and_5() {
         let mut rng = Rng::new(9);
         for _ in 0..2_000 {
             let bits = u128::from(rng.next_u64()) << 6 | u128::from(rng.below(64));
             let header = Header::from_bits(bits);
             assert_eq!(header.to_bits(), bits);
-            assert_eq!(crc5_bytes(bits & !FLOWN_LOST), bytes_of_table_4(&header));
-            assert_eq!(header.crc5(), CRC5.of(&bytes_of_table_4(&header)));
+            for edition in EDITIONS {
+                let bytes = bytes_of_table_4(edition, &header);
+                assert_eq!(header.crc5(edition), CRC5.of(&bytes));
+            }
+            let corrected = bytes_of_table_4(Edition::Corrected, &header);
+            assert_eq!(crc5_bytes(bits), corrected);
         }
     }
 

@@ -1,13 +1,13 @@
-//! S-NET air headers, power pages and the pass sheet.
+//! S-NET and SALSAT air headers, power pages and the pass sheet.
 //!
-//! A second implementation of paper 01 and of requests b, f, g and m of paper 02, written from the papers
-//! alone, so that two programs that share no thought can be compared line by line. It prefers the plain
-//! way over the quick one: words are repaired by trying all 32 valid words, checksums run bit by bit.
+//! A second implementation of paper 01 and of requests b, d, f, g and m of paper 02, written from the
+//! papers alone, so that two programs that share no thought can be compared line by line. It prefers the
+//! plain way over the quick one: words are repaired by trying all 32 valid words, checksums run bit by bit.
 //!
 //! | module | part of the papers |
 //! |---|---|
 //! | [`refusal`] | "a refusal carries number and place only" |
-//! | [`rules`] | how a frame is read: the limit on its flips |
+//! | [`rules`] | how a frame is read: its edition, the limit on its flips |
 //! | [`word`] | valid words, repair with its flip pattern |
 //! | [`air`] | 210 elements on air, fourteen words |
 //! | [`crc`] | CRC13, and the bit-by-bit rule of both checksums |
@@ -15,7 +15,7 @@
 //! | [`frame`] | header and payload together (7, 8) |
 //! | [`page`] | payload header, power page read (9 to 12) and written (18) |
 //! | [`shown`] | the shown value, with its third term (16) |
-//! | [`sheet`] | the pass sheet (17), what it counts, its lanes |
+//! | [`sheet`] | the pass sheet (17, 22), what it counts, its lanes |
 //! | [`listing`] | the listing |
 //!
 //! The rest makes material to compare with: [`rng`], [`sample`], [`season`], [`example`], [`vectors`].

@@ -4,13 +4,9 @@ use std::io::{self, ErrorKind, Read, Write};
 
 use crate::air::AIR_BITS;
 use crate::header::{Field, LONGEST_PAYLOAD};
-use crate::rules::{Rules, LARGEST_LIMIT};
+use crate::refusal::Refusal;
+use crate::rules::{Edition, Rules, LARGEST_LIMIT};
 use crate::sheet::Sheet;
-
-/// "The listing names 42 and prints what it did."
-const RULES: Rules = Rules {
-    limit: LARGEST_LIMIT,
-};
 
 /// What can fail in a listing; no input can.
 #[derive(Debug)]
@@ -21,25 +17,35 @@ pub enum Failure {
     Write(io::Error),
 }
 
-/// Lists the records of `input` to `output`, one record in memory at a time.
+/// Lists the records of `input`, frames of this edition, to `output`, one record in memory at a time.
 ///
 /// Both should be buffered. Where reading fails, the lines up to there are written and no last line.
-pub fn list(input: &mut impl Read, output: &mut impl Write) -> Result<(), Failure> {
-    let listed = list_records(input, output);
+pub fn list(
+    edition: Edition,
+    input: &mut impl Read,
+    output: &mut impl Write,
+) -> Result<(), Failure> {
+    let listed = list_records(edition, input, output);
     let flushed = output.flush().map_err(Failure::Write);
     listed.and(flushed)
 }
 
-fn list_records(input: &mut impl Read, output: &mut impl Write) -> Result<(), Failure> {
+fn list_records(
+    edition: Edition,
+    input: &mut impl Read,
+    output: &mut impl Write,
+) -> Result<(), Failure> {
     writeln!(output, "pass sheet").map_err(Failure::Write)?;
-    let mut sheet = Sheet::new();
+    let mut sheet = Sheet::new(edition);
     let mut record = RecordBuffer::new();
-    loop {
+    for number in 0.. {
         let next = record.read_from(input).map_err(Failure::Read)?;
         let goes_on = match next {
             Next::End => break,
             Next::Cut => false,
-            Next::Whole => list_record(&mut sheet, &record, output).map_err(Failure::Write)?,
+            Next::Whole => {
+                list_record(&mut sheet, number, &record, output).map_err(Failure::Write)?
+            }
         };
         if !goes_on {
             writeln!(output, "cut").map_err(Failure::Write)?;
@@ -62,31 +68,45 @@ fn list_records(input: &mut impl Read, output: &mut impl Write) -> Result<(), Fa
 /// for a full sheet does the same" as one that ends early.
 fn list_record(
     sheet: &mut Sheet,
+    number: u64,
     record: &RecordBuffer,
     output: &mut impl Write,
 ) -> io::Result<bool> {
-    if sheet.is_full() {
-        return Ok(false);
-    }
-    let number = sheet.offered();
+    // "The listing names 42 and prints what it did."
+    let rules = Rules {
+        edition: sheet.edition,
+        limit: LARGEST_LIMIT,
+    };
     let payload = record.payload();
-    match sheet.offer(RULES, &record.header, payload) {
+    match sheet.offer(rules, &record.header, payload) {
         Ok(heard) => {
-            let src_id = heard.header[Field::SrcId];
-            let satellite = ['A', 'B', 'C', 'D'][usize::from(src_id / 2)];
-            let radio = src_id % 2 + 1;
+            write!(output, "{number} accepted ")?;
+            write_source(sheet.edition, heard.header[Field::SrcId], output)?;
             let tx = heard.header[Field::FrCntTx];
             let (flips, worst) = (heard.flips(), heard.worst());
             let bytes = payload.len();
             writeln!(
                 output,
-                "{number} accepted {satellite} radio {radio} tx {tx} \
-                 repaired {flips} worst {worst} bytes {bytes}"
+                " tx {tx} repaired {flips} worst {worst} bytes {bytes}"
             )?;
         }
+        Err(Refusal { number: 17, .. }) => return Ok(false),
         Err(refusal) => writeln!(output, "{number} {refusal}")?,
     }
     Ok(true)
+}
+
+/// Who sent a frame: a corrected one "is given to no S-NET satellite: the listing writes `source 97` where it wrote
+/// `B radio 2`".
+fn write_source(edition: Edition, src_id: u16, output: &mut impl Write) -> io::Result<()> {
+    match edition {
+        Edition::Flown => {
+            let satellite = ['A', 'B', 'C', 'D'][usize::from(src_id / 2)];
+            let radio = src_id % 2 + 1;
+            write!(output, "{satellite} radio {radio}")
+        }
+        Edition::Corrected => write!(output, "source {src_id}"),
+    }
 }
 
 /// What stood at the input's present place.
@@ -190,7 +210,7 @@ mod tests {
             fails,
         };
         let mut output = Vec::new();
-        let result = list(&mut input, &mut output);
+        let result = list(Edition::Flown, &mut input, &mut output);
         (result, String::from_utf8(output).unwrap())
     }
 
@@ -222,7 +242,7 @@ mod tests {
                 Ok(())
             }
         }
-        let result = list(&mut io::empty(), &mut Closed);
+        let result = list(Edition::Flown, &mut io::empty(), &mut Closed);
         assert!(matches!(result, Err(Failure::Write(e)) if e.kind() == ErrorKind::BrokenPipe));
     }
 }

@@ -10,15 +10,18 @@ use std::process::ExitCode;
 use independent::example::write_example;
 use independent::header::LONGEST_PAYLOAD;
 use independent::listing::{list, Failure};
+use independent::rules::Edition;
 use independent::season::{write_season, Cut, Full, Options};
 use independent::vectors::{self, compare, write_inputs, write_lines, write_replies, KINDS};
 
 const USAGE: &str = "\
 usage: independent COMMAND ..
 
-  list [FILE ..]           the listing of standard input, or of each file in turn
+  list [--edition E] [FILE ..]
+                           the listing of standard input, or of each file in turn
   season SEED N [OPTION ..]
                            N records by chance; SEED and N are whole numbers
+      --edition E          the edition that they are written under
       --payload L          all payloads have L bytes, 0 to 1023
       --clean              only frames that are accepted, with light damage
       --full               65536 short records: they fill a sheet, and the last one cuts
@@ -37,7 +40,7 @@ usage: independent COMMAND ..
                            file INPUTS: every one that differs, and how many
   help                     this text
 
-KIND of vectors is one of
+An edition E is flown or corrected; flown where none is named. KIND of vectors is one of
  ";
 
 /// Bytes that are read or written at a time.
@@ -125,15 +128,21 @@ fn run(arguments: &[OsString], out: &mut Output) -> Result<bool, Stop> {
 
 /// Lists standard input, or each file; a file that cannot be read does not keep the next from being
 /// listed.
-fn list_all(files: &[OsString], out: &mut Output) -> Result<bool, Stop> {
+fn list_all(arguments: &[OsString], out: &mut Output) -> Result<bool, Stop> {
+    let (edition, files) = match arguments {
+        [option, rest @ ..] if option == "--edition" => {
+            (edition(rest.first())?, rest.get(1..).unwrap_or_default())
+        }
+        files => (Edition::Flown, files),
+    };
     if files.is_empty() {
-        return list_one(io::stdin().lock(), "standard input", out);
+        return list_one(edition, io::stdin().lock(), "standard input", out);
     }
     let mut all_read = true;
     for file in files {
         let name = Path::new(file).display().to_string();
         all_read &= match File::open(file) {
-            Ok(input) => list_one(input, &name, out)?,
+            Ok(input) => list_one(edition, input, &name, out)?,
             Err(error) => {
                 tell(&format!("{name}: {error}"));
                 false
@@ -144,9 +153,14 @@ fn list_all(files: &[OsString], out: &mut Output) -> Result<bool, Stop> {
 }
 
 /// Lists one input; false where it could not be read to its end.
-fn list_one(input: impl Read, name: &str, out: &mut Output) -> Result<bool, Stop> {
+fn list_one(
+    edition: Edition,
+    input: impl Read,
+    name: &str,
+    out: &mut Output,
+) -> Result<bool, Stop> {
     let mut input = BufReader::with_capacity(BUFFER, input);
-    match list(&mut input, out) {
+    match list(edition, &mut input, out) {
         Ok(()) => Ok(true),
         Err(Failure::Read(error)) => {
             tell(&format!("{name}: {error}"));
@@ -159,6 +173,7 @@ fn list_one(input: impl Read, name: &str, out: &mut Output) -> Result<bool, Stop
 fn season_options(arguments: &[OsString]) -> Result<Options, Stop> {
     let mut rest = arguments.iter();
     let mut options = Options {
+        edition: Edition::Flown,
         seed: number(rest.next(), "SEED", u64::MAX)?,
         records: number(rest.next(), "N", u64::MAX)?,
         payload: None,
@@ -168,6 +183,7 @@ fn season_options(arguments: &[OsString]) -> Result<Options, Stop> {
     };
     while let Some(option) = rest.next() {
         match option.to_str() {
+            Some("--edition") => options.edition = edition(rest.next())?,
             Some("--payload") => {
                 let length = number(rest.next(), "L", LONGEST_PAYLOAD as u64)?;
                 options.payload = Some(length as usize);
@@ -180,6 +196,16 @@ fn season_options(arguments: &[OsString]) -> Result<Options, Stop> {
         }
     }
     Ok(options)
+}
+
+fn edition(argument: Option<&OsString>) -> Result<Edition, Stop> {
+    match argument.and_then(|edition| edition.to_str()) {
+        Some("flown") => Ok(Edition::Flown),
+        Some("corrected") => Ok(Edition::Corrected),
+        _ => Err(Stop::Usage(String::from(
+            "--edition wants flown or corrected",
+        ))),
+    }
 }
 
 fn cut_kind(argument: Option<&OsString>) -> Result<Cut, Stop> {

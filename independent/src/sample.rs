@@ -6,6 +6,7 @@ use crate::air::{air_index, AIR_BITS, WORDS};
 use crate::crc::crc13;
 use crate::header::{Field, Header};
 use crate::rng::Rng;
+use crate::rules::Edition;
 use crate::word::{MOST_FLIPS, POSITIONS};
 
 /// The longest run of neighbouring air bits that is always repaired: three in each of fourteen words.
@@ -37,11 +38,11 @@ impl Record {
     }
 }
 
-/// Sets PduLength and CRC13 to those of the payload, then CRC5.
-pub fn seal(header: &mut Header, payload: &[u8]) {
+/// Sets PduLength and CRC13 to those of the payload, then CRC5 to that of the edition.
+pub fn seal(edition: Edition, header: &mut Header, payload: &[u8]) {
     header[Field::PduLength] = payload.len() as u16;
     header[Field::Crc13] = crc13(payload);
-    header[Field::Crc5] = header.crc5();
+    header[Field::Crc5] = header.crc5(edition);
 }
 
 /// Makes a payload of 12 bytes or more look like an EPS page with a time tag (001, Table 6). CRC14 and

@@ -9,12 +9,15 @@ use std::io::{self, Write};
 use crate::air::{AIR_BITS, WORDS};
 use crate::header::{largest, Field, Header, GIVEN, LONGEST_PAYLOAD};
 use crate::rng::Rng;
+use crate::rules::Edition;
 use crate::sample::{burst, dress_as_page, flip_some, seal, Record, LONGEST_BURST};
-use crate::sheet::{FULL, SOURCES};
+use crate::sheet::FULL;
 
 /// What a season is made by.
 #[derive(Clone, Debug)]
 pub struct Options {
+    /// The edition that the records are written under.
+    pub edition: Edition,
     /// The seed of all chances.
     pub seed: u64,
     /// The number of whole records.
@@ -89,7 +92,7 @@ enum Kind {
     Element,
     /// A wrong CRC5 in consistent words.
     Crc5,
-    /// SrcId 8 to 127.
+    /// SrcId 8 to 127. The corrected edition allows them, and has the CRC5 of the flown one in their place.
     Source,
     /// AiTypeSrc 4 to 15.
     AirType,
@@ -137,25 +140,27 @@ fn pick(rng: &mut Rng, mixture: &[(Kind, u32)]) -> Kind {
 /// The state between records.
 struct Season {
     rng: Rng,
+    edition: Edition,
     payload: Option<usize>,
     clean: bool,
     short: bool,
     /// "One frame counter as caller and another as responder", for each source: that of the Caller bit 0 stands first. A
     /// frame that is refused uses one up too.
-    counters: [[u32; 2]; SOURCES],
+    counters: Vec<[u32; 2]>,
     last: Option<Record>,
 }
 
 impl Season {
     fn new(options: &Options) -> Season {
         let mut rng = Rng::new(options.seed);
-        let mut counters = [[0; 2]; SOURCES];
+        let mut counters = vec![[0; 2]; options.edition.sources()];
         counters.fill_with(|| {
             let both = rng.below(16 * 16);
             [both % 16, both / 16]
         });
         Season {
             rng,
+            edition: options.edition,
             payload: options.payload,
             clean: options.clean,
             short: options.full.is_some(),
@@ -185,7 +190,10 @@ impl Season {
         for &kind in kinds {
             self.spoil_fields(kind, &mut header, &mut payload);
         }
-        header[Field::Crc5] = header.crc5();
+        header[Field::Crc5] = header.crc5(self.edition);
+        if self.edition == Edition::Corrected && kinds.contains(&Kind::Source) {
+            header[Field::Crc5] = header.crc5(Edition::Flown);
+        }
         if kinds.contains(&Kind::Crc5) {
             header[Field::Crc5] ^= self.rng.within(1..=31) as u16;
         }
@@ -226,11 +234,12 @@ impl Season {
         payload
     }
 
-    /// A header in range for this payload, from one of the eight sources.
+    /// A header in range for this payload, from one of the edition's sources.
     fn fresh_header(&mut self, payload: &[u8]) -> Header {
         let mut header = Header::default();
         for field in 0..GIVEN {
-            header.values[field] = self.rng.within(0..=u32::from(largest(field))) as u16;
+            header.values[field] =
+                self.rng.within(0..=u32::from(largest(self.edition, field))) as u16;
         }
         // Most frames follow the one before them; some repeat its counter, some leave a gap.
         let lanes = &mut self.counters[usize::from(header[Field::SrcId])];
@@ -242,7 +251,7 @@ impl Season {
         };
         *counter %= 16;
         header[Field::FrCntTx] = *counter as u16;
-        seal(&mut header, payload);
+        seal(self.edition, &mut header, payload);
         header
     }
 
@@ -250,7 +259,9 @@ impl Season {
     fn spoil_fields(&mut self, kind: Kind, header: &mut Header, payload: &mut [u8]) {
         let rng = &mut self.rng;
         match kind {
-            Kind::Source => header[Field::SrcId] = rng.within(8..=127) as u16,
+            Kind::Source if self.edition == Edition::Flown => {
+                header[Field::SrcId] = rng.within(8..=127) as u16;
+            }
             Kind::AirType => header[Field::AiTypeSrc] = rng.within(4..=15) as u16,
             Kind::Length => {
                 let other = match rng.below(4) {

@@ -1,12 +1,9 @@
-//! The pass sheet (refusal 17).
+//! The pass sheet (refusals 17 and 22).
 
 use crate::frame::read_frame;
-use crate::header::{Field, Heard, LARGEST_SRC_ID};
+use crate::header::{Field, Heard};
 use crate::refusal::Refusal;
-use crate::rules::Rules;
-
-/// "Eight records, one per SrcId."
-pub const SOURCES: usize = LARGEST_SRC_ID as usize + 1;
+use crate::rules::{Edition, Rules};
 
 /// "A count for each of the refusals 1 to 8"; of 20 and 21, "the sheet counts both".
 pub const COUNTED: [u8; COUNTS] = [1, 2, 3, 4, 5, 6, 7, 8, 20, 21];
@@ -84,18 +81,24 @@ impl Source {
 }
 
 /// The pass sheet. "A new sheet is the only reset."
-#[derive(Clone, Debug, Default, PartialEq, Eq)]
+#[derive(Clone, Debug, PartialEq, Eq)]
 pub struct Sheet {
-    /// A record for each SrcId.
-    pub sources: [Source; SOURCES],
+    /// "A sheet belongs to one edition."
+    pub edition: Edition,
+    /// A record for each SrcId: "eight records for flown, 128 for corrected".
+    pub sources: Vec<Source>,
     /// How often each refusal was given, in the order of [`COUNTED`].
     pub refused: [u32; COUNTS],
 }
 
 impl Sheet {
     /// A sheet that was offered nothing.
-    pub fn new() -> Sheet {
-        Sheet::default()
+    pub fn new(edition: Edition) -> Sheet {
+        Sheet {
+            edition,
+            sources: vec![Source::default(); edition.sources()],
+            refused: [0; COUNTS],
+        }
     }
 
     /// The numbers of a source for display. Any number may be handed in: one without a record was never heard.
@@ -135,6 +138,11 @@ impl Sheet {
         // 17: "sheet full, checked before anything else, sheet unchanged", place 65,535
         if self.is_full() {
             return Err(Refusal::new(17, FULL));
+        }
+        // 22: "a frame offered to a sheet of the other edition, after 17 and before 20", place 0; "sheet unchanged, and the
+        // frame isn't in its total"
+        if rules.edition != self.edition {
+            return Err(Refusal::new(22, 0usize));
         }
         let answer = read_frame(rules, air, payload);
         match &answer {
@@ -233,7 +241,7 @@ mod tests {
 
     #[test]
     fn a_made_up_sheet_is_full_by_its_exact_sum() {
-        let mut sheet = Sheet::new();
+        let mut sheet = Sheet::new(Edition::Flown);
         sheet.sources[2].caller.accepted = 1;
         sheet.sources[2].responder.accepted = 64_999;
         sheet.refused[7] = 534;
@@ -247,13 +255,16 @@ mod tests {
         sheet.refused = [u32::MAX; COUNTS];
         assert_eq!(sheet.offered(), 26 * u64::from(u32::MAX));
         let before = sheet.clone();
-        assert_eq!(sheet.offer(usual(), &[], &[]), Err(Refusal::new(17, FULL)));
+        assert_eq!(
+            sheet.offer(usual(Edition::Flown), &[], &[]),
+            Err(Refusal::new(17, FULL))
+        );
         assert_eq!(sheet, before);
     }
 
     #[test]
     fn a_source_is_shown_with_exact_sums_over_its_lanes() {
-        let mut sheet = Sheet::new();
+        let mut sheet = Sheet::new(Edition::Flown);
         let lane = |accepted, repaired| Lane {
             accepted,
             repaired,
@@ -271,7 +282,7 @@ mod tests {
 
     #[test]
     fn a_source_without_a_record_was_never_heard() {
-        let mut sheet = Sheet::new();
+        let mut sheet = Sheet::new(Edition::Flown);
         for source in &mut sheet.sources {
             source.caller.accept(4, 1);
             source.responder.accept(5, 2);
@@ -280,5 +291,27 @@ mod tests {
             assert_eq!(sheet.source(number), Source::default());
         }
         assert_eq!(sheet.source(0).caller.last, Some(4));
+    }
+
+    #[test]
+    fn a_corrected_sheet_has_128_records() {
+        let mut sheet = Sheet::new(Edition::Corrected);
+        assert_eq!(sheet.sources.len(), 128);
+        sheet.sources[127].caller.accept(4, 1);
+        assert_eq!(sheet.source(127).caller.last, Some(4));
+        for number in [128, 129, 255, usize::MAX] {
+            assert_eq!(sheet.source(number), Source::default());
+        }
+    }
+
+    #[test]
+    fn the_sum_of_a_made_up_corrected_sheet_is_exact_too() {
+        let mut sheet = Sheet::new(Edition::Corrected);
+        for source in &mut sheet.sources {
+            source.caller.accepted = u32::MAX;
+            source.responder.accepted = u32::MAX;
+        }
+        assert_eq!(sheet.offered(), 256 * u64::from(u32::MAX));
+        assert!(sheet.is_full());
     }
 }

@@ -8,34 +8,53 @@ use independent::header::{
 };
 use independent::refusal::Refusal;
 use independent::rng::Rng;
-use independent::rules::{usual, Rules};
+use independent::rules::{usual, Edition, Rules, EDITIONS};
 use independent::sample::{burst, flip_pattern, flip_some, seal};
 
 /// The rules that refuse no frame for its flips.
-const WIDEST: Rules = Rules { limit: 42 };
+const WIDEST: Rules = flown(42);
+
+/// How a flown frame is read under a limit.
+const fn flown(limit: u32) -> Rules {
+    let edition = Edition::Flown;
+    Rules { edition, limit }
+}
+
+/// Fields in range of the flown edition, by chance.
+fn given(rng: &mut Rng) -> [u16; GIVEN] {
+    given_under(Edition::Flown, rng)
+}
 
 /// Fields in range, by chance.
-fn given(rng: &mut Rng) -> [u16; GIVEN] {
+fn given_under(edition: Edition, rng: &mut Rng) -> [u16; GIVEN] {
     let mut given = [0; GIVEN];
     for (field, value) in given.iter_mut().enumerate() {
-        *value = rng.within(0..=u32::from(largest(field))) as u16;
+        *value = rng.within(0..=u32::from(largest(edition, field))) as u16;
     }
     given
 }
 
-/// The header that the writer makes of these fields and this payload.
+/// The header that the writer makes of these fields and this payload, for a flown frame.
 fn written(given: &[u16; GIVEN], payload: &[u8]) -> [u8; AIR_BITS] {
+    written_under(Edition::Flown, given, payload)
+}
+
+fn written_under(edition: Edition, given: &[u16; GIVEN], payload: &[u8]) -> [u8; AIR_BITS] {
     let mut air = [9; AIR_BITS];
-    write_header(given, payload, &mut air).unwrap();
+    write_header(edition, given, payload, &mut air).unwrap();
     air
 }
 
-/// The header with these changes under a right CRC5, on air.
+/// The header with these changes under a right CRC5 of the flown edition, on air.
 fn sealed(payload: &[u8], change: impl Fn(&mut Header)) -> [u8; AIR_BITS] {
+    sealed_under(Edition::Flown, payload, change)
+}
+
+fn sealed_under(edition: Edition, payload: &[u8], change: impl Fn(&mut Header)) -> [u8; AIR_BITS] {
     let mut header = Header::default();
-    seal(&mut header, payload);
+    seal(edition, &mut header, payload);
     change(&mut header);
-    header[Field::Crc5] = header.crc5();
+    header[Field::Crc5] = header.crc5(edition);
     header.to_air()
 }
 
@@ -53,18 +72,20 @@ fn refusal<T>(number: u8, place: usize) -> Result<T, Refusal> {
 }
 
 #[test]
-fn what_is_written_is_read_back() {
+fn what_is_written_is_read_back_under_the_same_edition() {
     let mut rng = Rng::new(1);
-    for length in (0..=1_023).step_by(11) {
-        let (given, payload) = (given(&mut rng), rng.bytes(length));
-        let air = written(&given, &payload);
-        let heard = read_frame(WIDEST, &air, &payload).unwrap();
-        assert_eq!(heard.patterns, [0; WORDS]);
-        assert_eq!(heard.header.values[..GIVEN], given);
-        assert_eq!(usize::from(heard.header[Field::PduLength]), length);
-        assert_eq!(heard.header[Field::Crc13], crc13(&payload));
-        assert_eq!(heard.header[Field::Crc5], heard.header.crc5());
-        assert_eq!(read_header(WIDEST, &air), Ok(heard));
+    for edition in EDITIONS {
+        for length in (0..=1_023).step_by(11) {
+            let (given, payload) = (given_under(edition, &mut rng), rng.bytes(length));
+            let air = written_under(edition, &given, &payload);
+            let heard = read_frame(usual(edition), &air, &payload).unwrap();
+            assert_eq!(heard.patterns, [0; WORDS]);
+            assert_eq!(heard.header.values[..GIVEN], given);
+            assert_eq!(usize::from(heard.header[Field::PduLength]), length);
+            assert_eq!(heard.header[Field::Crc13], crc13(&payload));
+            assert_eq!(heard.header[Field::Crc5], heard.header.crc5(edition));
+            assert_eq!(read_header(usual(edition), &air), Ok(heard));
+        }
     }
 }
 
@@ -245,7 +266,7 @@ fn refusal_4_gives_the_crc5_worked_out() {
         let mut header = Header::default();
         header[Field::SrcId] = 100;
         header[Field::AiTypeSrc] = 9;
-        let right = header.crc5();
+        let right = header.crc5(Edition::Flown);
         header[Field::Crc5] = right ^ wrong;
         assert_eq!(
             read_header(WIDEST, &header.to_air()),
@@ -282,8 +303,8 @@ fn refusal_21_is_a_total_of_flips_above_the_limit() {
             } else {
                 refusal(21, total as usize)
             };
-            assert_eq!(read_header(Rules { limit }, &air), heard);
-            assert_eq!(read_frame(Rules { limit }, &air, &[]), heard);
+            assert_eq!(read_header(flown(limit), &air), heard);
+            assert_eq!(read_frame(flown(limit), &air, &[]), heard);
         }
     }
 }
@@ -294,7 +315,7 @@ fn a_caller_that_names_no_limit_has_28() {
     let clean = written(&given(&mut rng), &[]);
     for total in 0..=42 {
         let air = with_flips(&mut rng, &clean, total);
-        let answer = read_frame(usual(), &air, &[]).map(|heard| heard.flips());
+        let answer = read_frame(usual(Edition::Flown), &air, &[]).map(|heard| heard.flips());
         let expected = if total <= 28 {
             Ok(total)
         } else {
@@ -303,7 +324,7 @@ fn a_caller_that_names_no_limit_has_28() {
         assert_eq!(answer, expected);
         assert_eq!(
             answer,
-            read_frame(Rules { limit: 28 }, &air, &[]).map(|heard| heard.flips())
+            read_frame(flown(28), &air, &[]).map(|heard| heard.flips())
         );
     }
 }
@@ -317,7 +338,7 @@ fn a_burst_of_up_to_the_limit_is_undone_and_a_longer_one_is_not() {
             for start in 0..=AIR_BITS - length {
                 let mut air = clean;
                 burst(&mut air, start, length);
-                let answer = read_header(Rules { limit }, &air).map(|heard| heard.header);
+                let answer = read_header(flown(limit), &air).map(|heard| heard.header);
                 let undone = length <= limit as usize;
                 assert_eq!(
                     answer,
@@ -340,11 +361,8 @@ fn flips_in_parity_positions_count_against_the_limit() {
         flip_pattern(&mut air, 6, pattern);
         let ones = pattern.count_ones();
         let limit = ones - 1;
-        assert_eq!(
-            read_header(Rules { limit }, &air),
-            refusal(21, ones as usize)
-        );
-        assert!(read_header(Rules { limit: ones }, &air).is_ok());
+        assert_eq!(read_header(flown(limit), &air), refusal(21, ones as usize));
+        assert!(read_header(flown(ones), &air).is_ok());
     }
 }
 
@@ -356,7 +374,7 @@ fn refusal_21_comes_after_3_and_before_4() {
     });
     flip_pattern(&mut air, 0, 0x0007);
     flip_pattern(&mut air, 13, 0x0001);
-    let limited = |limit: u32, air: &[u8]| read_frame(Rules { limit }, air, &[1]);
+    let limited = |limit: u32, air: &[u8]| read_frame(flown(limit), air, &[1]);
     // 5 under a right CRC5, 4 under a wrong one: 21 comes before both of them.
     assert_eq!(limited(4, &air), refusal(5, 100));
     assert_eq!(limited(3, &air), refusal(21, 4));
@@ -383,18 +401,18 @@ fn refusal_20_is_a_limit_above_42_and_comes_before_everything() {
     for limit in [43, 44, 84, 255, 256, 298, 65_535, 65_536 + 42, u32::MAX] {
         for slice in slices {
             assert_eq!(
-                read_header(Rules { limit }, slice),
+                read_header(flown(limit), slice),
                 refusal(20, limit as usize)
             );
             assert_eq!(
-                read_frame(Rules { limit }, slice, &[1]),
+                read_frame(flown(limit), slice, &[1]),
                 refusal(20, limit as usize)
             );
         }
     }
     for limit in 0..=42 {
-        assert!(read_frame(Rules { limit }, &good, &[]).is_ok());
-        assert_eq!(read_header(Rules { limit }, &short), refusal(1, 209));
+        assert!(read_frame(flown(limit), &good, &[]).is_ok());
+        assert_eq!(read_header(flown(limit), &short), refusal(1, 209));
     }
 }
 
@@ -502,7 +520,7 @@ fn writer_refuses_in_order_and_leaves_the_output_as_it_was() {
     let (short, long) = ([0; 1_023], [0; 1_024]);
     let answer = |given: &[u16; GIVEN], payload: &[u8], room: usize| {
         let mut out = vec![7; room];
-        let answer = write_header(given, payload, &mut out);
+        let answer = write_header(Edition::Flown, given, payload, &mut out);
         let untouched = if answer.is_ok() { AIR_BITS } else { 0 };
         assert!(out[untouched..].iter().all(|&byte| byte == 7));
         answer
@@ -519,18 +537,130 @@ fn writer_refuses_in_order_and_leaves_the_output_as_it_was() {
 
 #[test]
 fn refusal_14_is_the_lowest_field_out_of_range() {
-    let limits = [7, 127, 15, 15, 15, 3, 15, 3, 1, 1, 1, 1, 1, 1];
-    for field in 0..GIVEN {
-        let mut given = [0; GIVEN];
-        let mut out = [0; AIR_BITS];
-        given[field] = limits[field];
-        assert_eq!(write_header(&given, &[], &mut out), Ok(()));
-        for over in [limits[field] + 1, u16::MAX] {
-            given[field] = over;
-            assert_eq!(write_header(&given, &[], &mut out), refusal(14, field));
-            given[GIVEN - 1] = 2;
-            assert_eq!(write_header(&given, &[], &mut out), refusal(14, field));
-            given[GIVEN - 1] = 0;
+    for (edition, largest_src_id) in [(Edition::Flown, 7), (Edition::Corrected, 127)] {
+        let limits = [largest_src_id, 127, 15, 15, 15, 3, 15, 3, 1, 1, 1, 1, 1, 1];
+        for field in 0..GIVEN {
+            let mut given = [0; GIVEN];
+            let mut out = [0; AIR_BITS];
+            let mut answer = |given: &[u16; GIVEN]| write_header(edition, given, &[], &mut out);
+            given[field] = limits[field];
+            assert_eq!(answer(&given), Ok(()));
+            for over in [limits[field] + 1, u16::MAX] {
+                given[field] = over;
+                assert_eq!(answer(&given), refusal(14, field));
+                given[GIVEN - 1] = 2;
+                assert_eq!(answer(&given), refusal(14, field));
+                given[GIVEN - 1] = 0;
+            }
+        }
+    }
+}
+
+/// How a corrected frame is read, whatever its flips.
+const CORRECTED: Rules = Rules {
+    edition: Edition::Corrected,
+    limit: 42,
+};
+
+#[test]
+fn under_the_corrected_edition_all_128_sources_are_allowed() {
+    for src_id in 0..128 {
+        for ai_type_src in 0..16 {
+            let air = sealed_under(Edition::Corrected, &[], |header| {
+                header[Field::SrcId] = src_id;
+                header[Field::AiTypeSrc] = ai_type_src;
+                header[Field::AiTypeDst] = src_id % 16;
+            });
+            let answer = read_frame(CORRECTED, &air, &[]);
+            if ai_type_src > 3 {
+                assert_eq!(answer, refusal(6, ai_type_src.into()));
+            } else {
+                assert_eq!(answer.unwrap().header[Field::SrcId], src_id);
+            }
+        }
+    }
+}
+
+/// Header bits 32 to 35: the low two bits of AiTypeDst, and DfcId.
+fn set_lost_bits(header: &mut Header, four: u16) {
+    header[Field::AiTypeDst] = 4 | four >> 2;
+    header[Field::DfcId] = four & 3;
+}
+
+#[test]
+fn a_header_of_one_edition_reads_the_same_under_the_other_where_bits_32_to_35_are_zero() {
+    let mut rng = Rng::new(22);
+    for written in EDITIONS {
+        let read = Rules {
+            edition: written.other(),
+            limit: 42,
+        };
+        for round in 0..320 {
+            // SrcId to 7 in both
+            let mut given = given_under(Edition::Flown, &mut rng);
+            let mut header = Header::default();
+            set_lost_bits(&mut header, round % 16);
+            for field in [Field::AiTypeDst, Field::DfcId] {
+                given[field as usize] = header[field];
+            }
+            let air = written_under(written, &given, &[]);
+            let own = read_header(usual(written), &air).unwrap();
+            if round % 16 == 0 {
+                assert_eq!(read_header(read, &air), Ok(own));
+            } else {
+                let worked_out = own.header.crc5(read.edition);
+                assert_eq!(read_header(read, &air), refusal(4, worked_out.into()));
+            }
+        }
+    }
+}
+
+#[test]
+fn the_order_of_refusals_is_the_same_under_the_corrected_edition_but_for_5() {
+    let mut air = sealed_under(Edition::Corrected, &[], |header| {
+        set_lost_bits(header, 0b1001);
+        header[Field::SrcId] = 100;
+        header[Field::AiTypeSrc] = 9;
+        header[Field::Crc13] ^= 1;
+    });
+    let read = |limit: u32, air: &[u8]| {
+        let edition = Edition::Corrected;
+        read_frame(Rules { edition, limit }, air, &[])
+    };
+    assert_eq!(read(42, &air), refusal(6, 9));
+    // word 13 as another valid word: CRC5 is another one
+    flip_pattern(&mut air, 13, 0x0537);
+    assert!(matches!(read(42, &air), Err(Refusal { number: 4, .. })));
+    flip_pattern(&mut air, 1, 0x0011);
+    assert_eq!(read(1, &air), refusal(21, 2));
+    flip_pattern(&mut air, 12, 0x000F);
+    assert_eq!(read(1, &air), refusal(3, 12));
+    air[209] = 2;
+    assert_eq!(read(1, &air), refusal(2, 209));
+    assert_eq!(read(1, &air[1..]), refusal(1, 209));
+    assert_eq!(read(43, &air[1..]), refusal(20, 43));
+}
+
+#[test]
+fn payload_and_damage_are_judged_alike_under_both_editions() {
+    let mut rng = Rng::new(23);
+    for edition in EDITIONS {
+        let rules = Rules { edition, limit: 42 };
+        for _ in 0..200 {
+            let (given, payload) = (given_under(edition, &mut rng), rng.bytes(20));
+            let clean = written_under(edition, &given, &payload);
+            let air = with_flips(&mut rng, &clean, 42);
+            let header = read_frame(rules, &clean, &payload).unwrap().header;
+            let patterns = flipped(&clean, &air);
+            let heard = Heard { header, patterns };
+            assert_eq!(read_frame(rules, &air, &payload), Ok(heard));
+            assert_eq!(read_frame(usual(edition), &air, &payload), refusal(21, 42));
+            assert_eq!(read_frame(rules, &air, &payload[1..]), refusal(7, 20));
+            let mut other = payload.clone();
+            other[3] ^= 4;
+            let worked_out = crc13(&other);
+            let answer = read_frame(rules, &air, &other);
+            assert_eq!(answer, refusal(8, worked_out.into()));
         }
     }
 }

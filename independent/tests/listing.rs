@@ -8,7 +8,7 @@ use independent::frame::read_frame;
 use independent::header::{Field, Header, Heard};
 use independent::listing::list;
 use independent::rng::Rng;
-use independent::rules::Rules;
+use independent::rules::{Edition, Rules};
 use independent::sample::{flip_pattern, seal, Record};
 use independent::season::{write_season, Cut, Full, Options};
 use independent::sheet::Sheet;
@@ -17,11 +17,19 @@ use telling::all_sorts_in;
 mod telling;
 
 /// "The listing names 42 and prints what it did."
-const LISTED: Rules = Rules { limit: 42 };
+const LISTED: Rules = listed_as(Edition::Flown);
 
-fn listed(mut input: &[u8]) -> String {
+const fn listed_as(edition: Edition) -> Rules {
+    Rules { edition, limit: 42 }
+}
+
+fn listed(input: &[u8]) -> String {
+    listed_under(Edition::Flown, input)
+}
+
+fn listed_under(edition: Edition, mut input: &[u8]) -> String {
     let mut output = Vec::new();
-    list(&mut input, &mut output).unwrap();
+    list(edition, &mut input, &mut output).unwrap();
     String::from_utf8(output).unwrap()
 }
 
@@ -37,7 +45,7 @@ fn record(src_id: u16, fr_cnt_tx: u16, payload: Vec<u8>) -> Record {
     let mut header = Header::default();
     header[Field::SrcId] = src_id;
     header[Field::FrCntTx] = fr_cnt_tx;
-    seal(&mut header, &payload);
+    seal(Edition::Flown, &mut header, &payload);
     Record::new(&header, payload)
 }
 
@@ -76,6 +84,39 @@ fn satellites_and_radios() {
     }
     expected += "heard 8 accepted 8 refused 0\n";
     assert_eq!(listed(&bytes_of(&records)), expected);
+}
+
+#[test]
+fn a_corrected_frame_is_given_to_no_satellite() {
+    let mut records = Vec::new();
+    let mut expected = String::from("pass sheet\n");
+    for (number, src_id) in [97, 0, 1, 2, 7, 8, 127].into_iter().enumerate() {
+        let mut header = Header::default();
+        header[Field::SrcId] = src_id;
+        header[Field::FrCntTx] = 5;
+        header[Field::DfcId] = 2;
+        seal(Edition::Corrected, &mut header, &[1; 42]);
+        let mut record = Record::new(&header, vec![1; 42]);
+        flip_pattern(&mut record.header, 3, 0x4000);
+        flip_pattern(&mut record.header, 4, 0x0007);
+        flip_pattern(&mut record.header, 13, 0x7000);
+        records.push(record);
+        expected +=
+            &format!("{number} accepted source {src_id} tx 5 repaired 7 worst 4 bytes 42\n");
+    }
+    expected += "heard 7 accepted 7 refused 0\n";
+    let bytes = bytes_of(&records);
+    assert_eq!(listed_under(Edition::Corrected, &bytes), expected);
+    // Under the flown rule bits 32 to 35 count as zero, so that CRC5 is another one.
+    assert!(listed(&bytes).ends_with("heard 7 accepted 0 refused 7\n"));
+}
+
+#[test]
+fn both_editions_list_what_has_no_frame_alike() {
+    let zeros = [0; 2 + AIR_BITS];
+    for bytes in [&[][..], &[0], &zeros, &zeros[1..], &[0xFF; 4], &[2; 300]] {
+        assert_eq!(listed_under(Edition::Corrected, bytes), listed(bytes));
+    }
 }
 
 #[test]
@@ -171,7 +212,7 @@ pass sheet
 heard 16 accepted 9 refused 7
 ";
     assert_eq!(listed(&bytes), expected);
-    let mut sheet = Sheet::new();
+    let mut sheet = Sheet::new(Edition::Flown);
     for record in example() {
         let _ = sheet.offer(LISTED, &record.header, &record.payload);
     }
@@ -181,6 +222,7 @@ heard 16 accepted 9 refused 7
 
 fn options(seed: u64, records: u64) -> Options {
     Options {
+        edition: Edition::Flown,
         seed,
         records,
         payload: None,
@@ -215,7 +257,7 @@ fn records_of(mut bytes: &[u8]) -> Vec<Record> {
 fn a_season_has_everything() {
     let records = records_of(&season(&options(1, 3_000)));
     assert_eq!(records.len(), 3_000);
-    let mut sheet = Sheet::new();
+    let mut sheet = Sheet::new(Edition::Flown);
     let (mut flips, mut lengths) = (BTreeSet::new(), BTreeSet::new());
     let mut patterns = Vec::new();
     for record in &records {
@@ -236,6 +278,41 @@ fn a_season_has_everything() {
     }
     assert!(flips.contains(&0) && flips.contains(&42) && flips.len() > 30);
     assert!(lengths.contains(&0) && lengths.contains(&1_023) && lengths.len() > 50);
+    all_sorts_in(&patterns);
+}
+
+#[test]
+fn a_corrected_season_has_everything() {
+    let corrected = Options {
+        edition: Edition::Corrected,
+        ..options(1, 12_000)
+    };
+    let records = records_of(&season(&corrected));
+    assert_eq!(records.len(), 12_000);
+    let mut sheet = Sheet::new(Edition::Corrected);
+    let mut patterns = Vec::new();
+    let mut flown = 0;
+    for record in &records {
+        let answer = sheet.offer(
+            listed_as(Edition::Corrected),
+            &record.header,
+            &record.payload,
+        );
+        if let Ok(heard) = answer {
+            patterns.push(heard.patterns);
+        } else {
+            // a frame of the flown edition
+            flown += u32::from(read_frame(LISTED, &record.header, &record.payload).is_ok());
+        }
+    }
+    // 2, 3, 4, 6, 7, 8; 5 is not made, and 1, 20 and 21 are not given
+    let numbers: Vec<usize> = (0..10).filter(|&k| sheet.refused[k] > 20).collect();
+    assert_eq!(numbers, [1, 2, 3, 5, 6, 7]);
+    assert_eq!(sheet.refused.iter().filter(|&&count| count > 0).count(), 6);
+    assert!(flown > 0);
+    let lanes = || sheet.sources.iter().flat_map(|s| [s.caller, s.responder]);
+    assert!(lanes().all(|lane| lane.accepted > 5 && lane.missed > 0));
+    assert!(lanes().filter(|lane| lane.repeats > 0).count() > 128);
     all_sorts_in(&patterns);
 }
 
@@ -290,7 +367,7 @@ fn a_season_of_one_payload_length_is_refused_in_every_way_too() {
             payload: Some(length),
             ..options(3, 1_000)
         };
-        let mut sheet = Sheet::new();
+        let mut sheet = Sheet::new(Edition::Flown);
         for record in records_of(&season(&fixed)) {
             assert_eq!(record.payload.len(), length);
             let _ = sheet.offer(LISTED, &record.header, &record.payload);
@@ -347,4 +424,9 @@ fn a_season_is_the_same_on_every_machine() {
     let pinned = 1_235_754_680_356_416_400;
     assert_eq!(hash(&season(&options(1, 1_000))), pinned);
     assert_ne!(season(&options(1, 10)), season(&options(2, 10)));
+    let corrected = Options {
+        edition: Edition::Corrected,
+        ..options(1, 1_000)
+    };
+    assert_eq!(hash(&season(&corrected)), 7_669_003_070_231_185_927);
 }

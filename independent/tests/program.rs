@@ -76,6 +76,26 @@ fn seasons_are_made_by_their_arguments() {
 }
 
 #[test]
+fn an_edition_is_named_by_its_word() {
+    let season =
+        |words: &[&str]| run(&[&["season", "5", "20", "--clean"], words].concat(), &[]).stdout;
+    let list = |words: &[&str], input: &[u8]| {
+        let output = run(&[&["list"], words].concat(), input);
+        assert!(output.status.success() && output.stderr.is_empty());
+        String::from_utf8(output.stdout).unwrap()
+    };
+    let flown = season(&["--edition", "flown"]);
+    assert_eq!(season(&[]), flown);
+    assert_eq!(list(&["--edition", "flown"], &flown), list(&[], &flown));
+    assert!(list(&[], &flown).contains(" radio "));
+    let corrected = season(&["--edition", "corrected"]);
+    let lines = list(&["--edition", "corrected"], &corrected);
+    assert!(lines.ends_with("\nheard 20 accepted 20 refused 0\n"));
+    assert_eq!(lines.matches(" accepted source ").count(), 20);
+    assert!(list(&[], &corrected).contains(" refused 4 "));
+}
+
+#[test]
 fn vectors_example_and_help_are_printed() {
     assert_eq!(
         run(&["vectors", "encode"], &[])
@@ -105,12 +125,12 @@ fn replies_in_files_are_compared() {
     let other = file("other", &bytes);
 
     let output = run(&["compare", "crc5", &inputs, &same], &[]);
-    assert_eq!(output.stdout, b"1132 records compared, 0 differ\n");
+    assert_eq!(output.stdout, b"1264 records compared, 0 differ\n");
     assert!(output.status.success());
     let output = run(&["compare", "crc5", &inputs, &other], &[]);
     let told = String::from_utf8(output.stdout).unwrap();
     assert!(told.starts_with("record 3 (crc5), byte 0\n"));
-    assert!(told.ends_with("\n1132 records compared, 1 differ\n"));
+    assert!(told.ends_with("\n1264 records compared, 1 differ\n"));
     assert_eq!(output.status.code(), Some(1));
     // inputs that are no records, and a file that is not there
     for arguments in [["headers", &inputs, &same], ["crc5", "no such file", &same]] {
@@ -125,7 +145,7 @@ fn replies_in_files_are_compared() {
 
 #[test]
 fn bad_arguments_are_told_with_status_2() {
-    let bad: [&[&str]; 16] = [
+    let bad: [&[&str]; 20] = [
         &[],
         &["lists"],
         &["season"],
@@ -135,6 +155,10 @@ fn bad_arguments_are_told_with_status_2() {
         &["season", "1", "5", "--payload", "1024"],
         &["season", "1", "5", "--cut", "paper"],
         &["season", "1", "5", "--loud"],
+        &["season", "1", "5", "--edition", "Flown"],
+        &["season", "1", "5", "--edition"],
+        &["list", "--edition"],
+        &["list", "--edition", "second", "no such file"],
         &["vectors"],
         &["vectors", "nothing"],
         &["inputs", "words", "1", "2"],

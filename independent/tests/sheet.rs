@@ -4,7 +4,7 @@ use independent::air::AIR_BITS;
 use independent::header::{Field, Header};
 use independent::refusal::Refusal;
 use independent::rng::Rng;
-use independent::rules::{usual, Rules};
+use independent::rules::{usual, Edition, Rules};
 use independent::sample::{burst, flip_pattern, seal};
 use independent::sheet::{Lane, Sheet, Source, FULL};
 
@@ -19,22 +19,22 @@ fn frame_of(src_id: u16, caller: u16, fr_cnt_tx: u16) -> [u8; AIR_BITS] {
     header[Field::SrcId] = src_id;
     header[Field::Caller] = caller;
     header[Field::FrCntTx] = fr_cnt_tx;
-    seal(&mut header, &[]);
+    seal(Edition::Flown, &mut header, &[]);
     header.to_air()
 }
 
 #[test]
 fn accepted_frames_touch_their_lane_alone() {
-    let mut sheet = Sheet::new();
+    let mut sheet = Sheet::new(Edition::Flown);
     for (src_id, fr_cnt_tx) in [(0, 14), (5, 3), (0, 1), (5, 3), (0, 1), (5, 2)] {
         let mut air = frame(src_id, fr_cnt_tx);
         flip_pattern(&mut air, 2, 0x4001);
-        let heard = sheet.offer(usual(), &air, &[]).unwrap();
+        let heard = sheet.offer(usual(Edition::Flown), &air, &[]).unwrap();
         let patterns = [0, 0, 0x4001, 0, 0, 0, 0, 0, 0, 0, 0, 0, 0, 0];
         assert_eq!(heard.patterns, patterns);
         assert_eq!((heard.flips(), heard.worst()), (2, 2));
     }
-    let mut expected = Sheet::new();
+    let mut expected = Sheet::new(Edition::Flown);
     expected.sources[0].responder = Lane {
         accepted: 3,
         repaired: 6,
@@ -55,8 +55,10 @@ fn accepted_frames_touch_their_lane_alone() {
 
 #[test]
 fn refused_frames_touch_no_source() {
-    let mut sheet = Sheet::new();
-    sheet.offer(usual(), &frame(1, 4), &[]).unwrap();
+    let mut sheet = Sheet::new(Edition::Flown);
+    sheet
+        .offer(usual(Edition::Flown), &frame(1, 4), &[])
+        .unwrap();
     let source = sheet.sources[1];
 
     let good = frame(1, 9);
@@ -66,9 +68,9 @@ fn refused_frames_touch_no_source() {
     flip_pattern(&mut beyond, 3, 0x000F);
     let changed = |change: fn(&mut Header)| {
         let mut header = Header::default();
-        seal(&mut header, &[]);
+        seal(Edition::Flown, &mut header, &[]);
         change(&mut header);
-        header[Field::Crc5] = header.crc5();
+        header[Field::Crc5] = header.crc5(Edition::Flown);
         header.to_air()
     };
     let offers: [(&[u8], &[u8]); 8] = [
@@ -83,7 +85,9 @@ fn refused_frames_touch_no_source() {
     ];
     for (i, (air, payload)) in offers.into_iter().enumerate() {
         let before = sheet.refused;
-        let refusal = sheet.offer(usual(), air, payload).unwrap_err();
+        let refusal = sheet
+            .offer(usual(Edition::Flown), air, payload)
+            .unwrap_err();
         assert_eq!(usize::from(refusal.number), i + 1);
         let mut after = before;
         after[i] += 1;
@@ -93,7 +97,9 @@ fn refused_frames_touch_no_source() {
     assert_eq!(sheet.sources[1], source);
     assert_eq!(sheet.offered(), 9);
     // Counter 9 was only ever refused: from 4 to 5 nothing is missed.
-    sheet.offer(usual(), &frame(1, 5), &[]).unwrap();
+    sheet
+        .offer(usual(Edition::Flown), &frame(1, 5), &[])
+        .unwrap();
     assert_eq!(sheet.sources[1].responder.missed, 0);
 }
 
@@ -106,14 +112,17 @@ fn faded(src_id: u16, fr_cnt_tx: u16) -> [u8; AIR_BITS] {
 
 #[test]
 fn limits_are_counted_and_are_in_the_total() {
-    let mut sheet = Sheet::new();
-    let limit = |limit| Rules { limit };
+    let mut sheet = Sheet::new(Edition::Flown);
+    let limit = |limit| Rules {
+        edition: Edition::Flown,
+        limit,
+    };
     assert_eq!(
         sheet.offer(limit(43), &[], &[]),
         Err(Refusal::new(20, 43usize))
     );
     assert_eq!(
-        sheet.offer(usual(), &faded(3, 1), &[]),
+        sheet.offer(usual(Edition::Flown), &faded(3, 1), &[]),
         Err(Refusal::new(21, 29usize))
     );
     assert_eq!(
@@ -122,7 +131,7 @@ fn limits_are_counted_and_are_in_the_total() {
     );
     assert_eq!(sheet.refused, [0, 0, 0, 0, 0, 0, 0, 0, 1, 2]);
     assert_eq!((sheet.offered(), sheet.refused_total()), (3, 3));
-    assert_eq!(sheet.sources, Sheet::new().sources);
+    assert_eq!(sheet.sources, Sheet::new(Edition::Flown).sources);
     // The limit is the offer's, not the sheet's.
     let heard = sheet.offer(limit(29), &faded(3, 1), &[]).unwrap();
     assert_eq!((heard.flips(), sheet.source(3).repaired()), (29, 29));
@@ -132,9 +141,12 @@ fn limits_are_counted_and_are_in_the_total() {
 #[test]
 fn refusal_20_comes_after_17_and_fills_a_sheet_as_others_do() {
     for (place, offer) in [(8, 43), (9, 0), (8, u32::MAX)] {
-        let mut sheet = Sheet::new();
+        let mut sheet = Sheet::new(Edition::Flown);
         sheet.refused[place] = FULL as u32 - 1;
-        let rules = Rules { limit: offer };
+        let rules = Rules {
+            edition: Edition::Flown,
+            limit: offer,
+        };
         let number = if offer == 0 { 21 } else { 20 };
         assert_eq!(
             sheet.offer(rules, &faded(0, 0), &[]).unwrap_err().number,
@@ -143,7 +155,7 @@ fn refusal_20_comes_after_17_and_fills_a_sheet_as_others_do() {
         assert_eq!(sheet.refused[place], FULL as u32);
         let full = sheet.clone();
         for limit in [0, 28, 43, u32::MAX] {
-            let answer = sheet.offer(Rules { limit }, &faded(0, 0), &[]);
+            let answer = sheet.offer(Rules { limit, ..rules }, &faded(0, 0), &[]);
             assert_eq!(answer, Err(Refusal::new(17, FULL)));
         }
         assert_eq!(sheet, full);
@@ -152,13 +164,13 @@ fn refusal_20_comes_after_17_and_fills_a_sheet_as_others_do() {
 
 #[test]
 fn a_sheet_is_full_after_65535_offers() {
-    let mut sheet = Sheet::new();
+    let mut sheet = Sheet::new(Edition::Flown);
     let (good, bad) = (frame(6, 0), [2; AIR_BITS]);
     for offer in 0..FULL {
         let answer = if offer % 1_000 == 0 {
-            sheet.offer(usual(), &good, &[]).err()
+            sheet.offer(usual(Edition::Flown), &good, &[]).err()
         } else {
-            sheet.offer(usual(), &bad, &[]).err()
+            sheet.offer(usual(Edition::Flown), &bad, &[]).err()
         };
         assert_ne!(answer.map(|refusal| refusal.number), Some(17));
     }
@@ -169,7 +181,7 @@ fn a_sheet_is_full_after_65535_offers() {
     );
     for air in [&good[..], &bad[..], &[]] {
         assert_eq!(
-            sheet.offer(usual(), air, &[]),
+            sheet.offer(usual(Edition::Flown), air, &[]),
             Err(Refusal::new(17, 65_535usize))
         );
     }
@@ -179,12 +191,12 @@ fn a_sheet_is_full_after_65535_offers() {
 #[test]
 fn accepted_and_refused_are_the_history() {
     let mut rng = Rng::new(6);
-    let mut sheet = Sheet::new();
+    let mut sheet = Sheet::new(Edition::Flown);
     let (mut accepted, mut refused) = (0, 0);
     for _ in 0..500 {
         let mut air = frame(rng.below(8) as u16, rng.below(16) as u16);
         flip_pattern(&mut air, 4, rng.below(0x8000) as u16);
-        match sheet.offer(usual(), &air, &[]) {
+        match sheet.offer(usual(Edition::Flown), &air, &[]) {
             Ok(_) => accepted += 1,
             Err(_) => refused += 1,
         }
@@ -196,7 +208,7 @@ fn accepted_and_refused_are_the_history() {
 
 #[test]
 fn made_up_counts_stay_at_the_largest() {
-    let mut sheet = Sheet::new();
+    let mut sheet = Sheet::new(Edition::Flown);
     sheet.sources[2].responder = Lane {
         accepted: 65_533,
         repaired: u32::MAX,
@@ -206,8 +218,10 @@ fn made_up_counts_stay_at_the_largest() {
     };
     let mut air = frame(2, 8);
     flip_pattern(&mut air, 0, 1);
-    sheet.offer(usual(), &air, &[]).unwrap();
-    sheet.offer(usual(), &frame(2, 12), &[]).unwrap();
+    sheet.offer(usual(Edition::Flown), &air, &[]).unwrap();
+    sheet
+        .offer(usual(Edition::Flown), &frame(2, 12), &[])
+        .unwrap();
     let expected = Lane {
         accepted: 65_535,
         repaired: u32::MAX,
@@ -217,23 +231,30 @@ fn made_up_counts_stay_at_the_largest() {
     };
     assert_eq!(sheet.sources[2].responder, expected);
     assert_eq!(sheet.sources[2].caller, Lane::default());
-    assert_eq!(sheet.offer(usual(), &air, &[]), Err(Refusal::new(17, FULL)));
+    assert_eq!(
+        sheet.offer(usual(Edition::Flown), &air, &[]),
+        Err(Refusal::new(17, FULL))
+    );
 }
 
 #[test]
 fn the_caller_bit_names_the_lane() {
     for src_id in 0..8 {
         for (caller, fr_cnt_tx) in [(1, 6), (0, 11)] {
-            let mut sheet = Sheet::new();
+            let mut sheet = Sheet::new(Edition::Flown);
             sheet
-                .offer(usual(), &frame_of(src_id, caller, fr_cnt_tx), &[])
+                .offer(
+                    usual(Edition::Flown),
+                    &frame_of(src_id, caller, fr_cnt_tx),
+                    &[],
+                )
                 .unwrap();
             let heard = Lane {
                 accepted: 1,
                 last: Some(fr_cnt_tx as u8),
                 ..Lane::default()
             };
-            let mut expected = Sheet::new();
+            let mut expected = Sheet::new(Edition::Flown);
             expected.sources[usize::from(src_id)] = if caller == 1 {
                 Source {
                     caller: heard,
@@ -252,12 +273,12 @@ fn the_caller_bit_names_the_lane() {
 
 #[test]
 fn a_radio_keeps_one_frame_counter_as_caller_and_another_as_responder() {
-    let mut sheet = Sheet::new();
+    let mut sheet = Sheet::new(Edition::Flown);
     // 3, 4, 6 as caller; 4, 4, 5 as responder: one is missed there, one repeated here, and nothing else.
     for (caller, fr_cnt_tx) in [(1, 3), (0, 4), (1, 4), (0, 4), (1, 6), (0, 5)] {
         let mut air = frame_of(2, caller, fr_cnt_tx);
         burst(&mut air, 0, 1 + usize::from(caller));
-        sheet.offer(usual(), &air, &[]).unwrap();
+        sheet.offer(usual(Edition::Flown), &air, &[]).unwrap();
     }
     let source = Source {
         caller: Lane {
@@ -299,19 +320,19 @@ fn any_frame(rng: &mut Rng) -> (LaneOf, [u8; AIR_BITS]) {
 fn a_lanes_numbers_depend_on_that_lanes_accepted_frames_only() {
     let mut rng = Rng::new(19);
     let history: Vec<_> = (0..3_000).map(|_| any_frame(&mut rng)).collect();
-    let mut whole = Sheet::new();
+    let mut whole = Sheet::new(Edition::Flown);
     let mut accepted = Vec::new();
     for (lane, air) in &history {
-        if whole.offer(usual(), air, &[]).is_ok() {
+        if whole.offer(usual(Edition::Flown), air, &[]).is_ok() {
             accepted.push((*lane, air));
         }
     }
     for src_id in 0..8 {
         for caller in [0, 1] {
-            let mut alone = Sheet::new();
+            let mut alone = Sheet::new(Edition::Flown);
             for (lane, air) in &accepted {
                 if *lane == (src_id, caller) {
-                    alone.offer(usual(), &air[..], &[]).unwrap();
+                    alone.offer(usual(Edition::Flown), &air[..], &[]).unwrap();
                 }
             }
             let of = |sheet: &Sheet| {
@@ -332,16 +353,130 @@ fn a_lanes_numbers_depend_on_that_lanes_accepted_frames_only() {
 fn frames_of_both_lanes_fill_a_sheet() {
     for (of_caller, of_responder) in [(65_534, 0), (0, 65_534), (30_000, 35_534)] {
         for caller in [0, 1] {
-            let mut sheet = Sheet::new();
+            let mut sheet = Sheet::new(Edition::Flown);
             sheet.sources[5].caller.accepted = of_caller;
             sheet.sources[5].responder.accepted = of_responder;
             let air = frame_of(5, caller, 0);
-            assert!(sheet.offer(usual(), &air, &[]).is_ok());
+            assert!(sheet.offer(usual(Edition::Flown), &air, &[]).is_ok());
             let full = sheet.clone();
-            let answer = sheet.offer(usual(), &air, &[]);
+            let answer = sheet.offer(usual(Edition::Flown), &air, &[]);
             assert_eq!(answer, Err(Refusal::new(17, FULL)));
             assert_eq!(sheet, full);
             assert_eq!(sheet.source(5).accepted(), 65_535);
         }
     }
+}
+
+/// A corrected frame of a caller, without payload; AiTypeDst is such that its CRC5 is not the flown one.
+fn corrected(src_id: u16, fr_cnt_tx: u16) -> [u8; AIR_BITS] {
+    let mut header = Header::default();
+    header[Field::SrcId] = src_id;
+    header[Field::Caller] = 1;
+    header[Field::AiTypeDst] = 1;
+    header[Field::FrCntTx] = fr_cnt_tx;
+    seal(Edition::Corrected, &mut header, &[]);
+    header.to_air()
+}
+
+#[test]
+fn a_corrected_sheet_has_a_record_for_each_of_128_sources() {
+    let rules = usual(Edition::Corrected);
+    let mut sheet = Sheet::new(Edition::Corrected);
+    for src_id in 0..128 {
+        for fr_cnt_tx in [3, 3, 6] {
+            sheet
+                .offer(rules, &corrected(src_id, fr_cnt_tx), &[])
+                .unwrap();
+        }
+    }
+    let expected = Lane {
+        accepted: 3,
+        repaired: 0,
+        missed: 2,
+        repeats: 1,
+        last: Some(6),
+    };
+    assert_eq!(sheet.sources.len(), 128);
+    for source in &sheet.sources {
+        assert_eq!(
+            (source.caller, source.responder),
+            (expected, Lane::default())
+        );
+    }
+    assert_eq!((sheet.offered(), sheet.refused_total()), (3 * 128, 0));
+}
+
+#[test]
+fn refusal_22_is_a_frame_of_the_other_edition_and_changes_nothing() {
+    for edition in [Edition::Flown, Edition::Corrected] {
+        let mut sheet = Sheet::new(edition);
+        sheet.refused[2] = 5;
+        sheet.sources[7].caller.last = Some(3);
+        let before = sheet.clone();
+        // before 20, 1, 2, 3, 4 and what would be accepted
+        let mut beyond = frame(0, 0);
+        flip_pattern(&mut beyond, 3, 0x000F);
+        let slices: [&[u8]; 6] = [
+            &frame(1, 4),
+            &corrected(1, 4),
+            &[0; AIR_BITS],
+            &[2; AIR_BITS],
+            &beyond,
+            &[],
+        ];
+        for slice in slices {
+            for limit in [0, 28, 42, 43, u32::MAX] {
+                let rules = Rules {
+                    edition: edition.other(),
+                    limit,
+                };
+                let answer = sheet.offer(rules, slice, &[]);
+                assert_eq!(answer, Err(Refusal::new(22, 0usize)));
+                assert_eq!(sheet, before);
+                assert_eq!(sheet.offered(), 5);
+            }
+        }
+    }
+}
+
+#[test]
+fn refusal_22_comes_after_17() {
+    for edition in [Edition::Flown, Edition::Corrected] {
+        let mut sheet = Sheet::new(edition);
+        sheet.refused[0] = FULL as u32 - 1;
+        let (own, other) = (usual(edition), usual(edition.other()));
+        assert_eq!(sheet.offer(other, &[], &[]), Err(Refusal::new(22, 0usize)));
+        // It was not offered: there is room for one more.
+        assert_eq!(sheet.offer(own, &[], &[]), Err(Refusal::new(1, 0usize)));
+        assert_eq!(sheet.offer(other, &[], &[]), Err(Refusal::new(17, FULL)));
+        assert_eq!(sheet.offer(own, &[], &[]), Err(Refusal::new(17, FULL)));
+    }
+}
+
+#[test]
+fn a_corrected_sheet_counts_refusals_as_a_flown_one_does() {
+    let mut sheet = Sheet::new(Edition::Corrected);
+    let rules = usual(Edition::Corrected);
+    let good = corrected(90, 1);
+    let mut above = good;
+    above[3] = 2;
+    let mut beyond = good;
+    flip_pattern(&mut beyond, 3, 0x000F);
+    let mut faded = good;
+    burst(&mut faded, 30, 29);
+    let no_limit = Rules { limit: 43, ..rules };
+    let offers: [(Rules, &[u8], &[u8]); 7] = [
+        (rules, &good[1..], &[]),
+        (rules, &above, &[]),
+        (rules, &beyond, &[]),
+        (rules, &[0; AIR_BITS], &[]),
+        (rules, &good, &[1]),
+        (no_limit, &good, &[]),
+        (rules, &faded, &[]),
+    ];
+    for (rules, air, payload) in offers {
+        assert!(sheet.offer(rules, air, payload).is_err());
+    }
+    assert_eq!(sheet.refused, [1, 1, 1, 1, 0, 0, 1, 0, 1, 1]);
+    assert_eq!(sheet.sources, Sheet::new(Edition::Corrected).sources);
 }

@@ -5,6 +5,9 @@ use std::collections::BTreeSet;
 use std::sync::OnceLock;
 
 use independent::air::WORDS;
+use independent::header::{Field, Header};
+use independent::rules::Edition;
+use independent::sample::seal;
 use independent::vectors::{
     compare, write_inputs, write_lines, write_replies, Kind, DEFAULT_SEED, KINDS,
 };
@@ -34,11 +37,11 @@ fn lines(kind: Kind) -> Vec<String> {
 }
 
 /// The kinds but for `stored`.
-const OTHERS: usize = 12;
+const OTHERS: usize = 13;
 
 /// The size of a record of each kind, and of a reply.
-const SIZES: [usize; OTHERS] = [2, 1, 2_049, 65, 262, 20, 266, 1_102, 36, 28, 546, 329];
-const REPLY_SIZES: [usize; OTHERS] = [12, 3, 4, 1, 60, 267, 60, 80, 75, 17, 388, 52];
+const SIZES: [usize; OTHERS] = [2, 1, 2_049, 66, 263, 21, 267, 1_102, 36, 28, 547, 329, 296];
+const REPLY_SIZES: [usize; OTHERS] = [12, 3, 4, 1, 60, 267, 60, 80, 75, 17, 388, 52, 145];
 
 #[test]
 fn every_input_has_its_size_its_reply_and_its_line() {
@@ -83,6 +86,9 @@ fn marked_examples_are_among_the_lines() {
     let crc5 = lines(Kind::Crc5);
     // No bit; then bit 0 alone, and so on: bit 32 is on line 33.
     assert_eq!((crc5[0].as_str(), crc5[33].as_str()), ("6", "6"));
+    // The same under the corrected edition, 132 lines later.
+    let corrected = &crc5[132..];
+    assert_eq!((corrected[0].as_str(), corrected[33].as_str()), ("6", "28"));
 }
 
 #[test]
@@ -118,6 +124,18 @@ fn every_answer_is_among_the_lines() {
             "refused 17 65535 ",
             "refused 20 43 ",
             "refused 21 ",
+            "refused 22 0 ",
+        ],
+    );
+    has(
+        Kind::Wides,
+        &[
+            "accepted 127 ",
+            "refused 6 ",
+            "refused 17 65535 ",
+            "refused 20 43 ",
+            "refused 21 ",
+            "refused 22 0 ",
         ],
     );
     has(
@@ -226,7 +244,11 @@ fn stored_records_have_every_answer_of_their_kind() {
         (Kind::Frames, "accepted ", 20..=21),
         (Kind::Sheets, "accepted ", 2..=8),
         (Kind::Sheets, "accepted ", 17..=17),
-        (Kind::Sheets, "accepted ", 20..=21),
+        (Kind::Sheets, "accepted ", 20..=22),
+        (Kind::Wides, "accepted ", 2..=4),
+        (Kind::Wides, "accepted ", 6..=8),
+        (Kind::Wides, "accepted ", 17..=17),
+        (Kind::Wides, "accepted ", 20..=22),
         (Kind::Pages, "page ", 9..=12),
         (Kind::Writes, "written ", 13..=15),
         (Kind::Shown, "nan", 16..=16),
@@ -267,8 +289,8 @@ fn stored_records_have_the_limits_of_their_kind() {
     };
     for length in [0u16, 1_023, 1_024] {
         has(Kind::Crc13, 0, &length.to_be_bytes());
-        has(Kind::Writes, 16, &length.to_be_bytes());
-        has(Kind::Frames, 262, &length.to_be_bytes());
+        has(Kind::Writes, 17, &length.to_be_bytes());
+        has(Kind::Frames, 263, &length.to_be_bytes());
         has(Kind::Pages, 0, &length.to_be_bytes());
     }
     for spread in [0u16, 1, 32_767, 32_768, 65_535] {
@@ -399,18 +421,21 @@ fn stored_records_tell_the_shown_value_from_wrong_ones() {
     }
 }
 
-/// The limit that a record of `headers`, `frames` or `sheets` names.
+/// The limit that a record of `headers`, `frames`, `sheets` or `wides` names, behind its edition.
 fn limit_of(record: &[u8]) -> u32 {
-    u32::from_be_bytes(*record.first_chunk().unwrap())
+    u32::from_be_bytes(record[1..5].try_into().unwrap())
 }
 
-/// The header bytes of a record of `sheets`, `headers` or `frames`: behind limit and sheet, or behind limit and length.
+/// The header bytes of a record of these kinds: behind rules and sheet, or behind rules and length.
 fn header_of(kind: Kind, record: &[u8]) -> &[u8] {
-    if kind == Kind::Sheets {
-        return &record[4 + 328..][..210];
+    match kind {
+        Kind::Sheets => &record[5 + 328..][..210],
+        Kind::Wides => &record[5 + 1 + 36 + 40..][..210],
+        _ => {
+            let length = u16::from_be_bytes([record[5], record[6]]);
+            &record[7..][..usize::from(length)]
+        }
     }
-    let length = u16::from_be_bytes([record[4], record[5]]);
-    &record[6..][..usize::from(length)]
 }
 
 /// The fourteen patterns behind answer, fields and flips.
@@ -429,7 +454,7 @@ fn patterns_on_air(header: &[u8]) -> [u16; WORDS] {
 #[test]
 fn accepted_replies_have_the_pattern_of_every_word_and_their_ones_in_all() {
     let stored = stored();
-    for kind in [Kind::Headers, Kind::Frames, Kind::Sheets] {
+    for kind in [Kind::Headers, Kind::Frames, Kind::Sheets, Kind::Wides] {
         let mut all = Vec::new();
         for vector in stored[kind as usize].iter().filter(|v| v.reply[0] == 0) {
             let patterns = patterns_of(&vector.reply);
@@ -442,7 +467,9 @@ fn accepted_replies_have_the_pattern_of_every_word_and_their_ones_in_all() {
             assert_eq!(words[19..][..WORDS], patterns.map(|p| format!("{p:04x}")));
             all.push(patterns);
         }
-        all_sorts_in(&all);
+        if kind != Kind::Wides {
+            all_sorts_in(&all);
+        }
     }
 }
 
@@ -452,7 +479,8 @@ fn beside_a_refusal_everything_else_is_0_although_bits_were_flipped() {
     for (kind, numbers) in [
         (Kind::Headers, vec![1, 2, 3, 4, 5, 6, 20, 21]),
         (Kind::Frames, vec![1, 2, 3, 4, 5, 6, 7, 8, 20, 21]),
-        (Kind::Sheets, vec![2, 3, 4, 5, 6, 7, 8, 17, 20, 21]),
+        (Kind::Sheets, vec![2, 3, 4, 5, 6, 7, 8, 17, 20, 21, 22]),
+        (Kind::Wides, vec![2, 3, 4, 6, 7, 8, 17, 20, 21, 22]),
     ] {
         let mut flipped = BTreeSet::new();
         for vector in stored[kind as usize].iter().filter(|v| v.reply[0] != 0) {
@@ -515,7 +543,7 @@ fn limits_above_42_and_totals_above_the_limit_come_with_every_other_refusal() {
         let mut together = BTreeSet::new();
         for vector in &stored[kind as usize] {
             let mut widest = vector.record.clone();
-            widest[..4].copy_from_slice(&42_u32.to_be_bytes());
+            widest[1..5].copy_from_slice(&42_u32.to_be_bytes());
             let told = compare(kind, &widest, &vector.reply).unwrap();
             if !told.differences.is_empty() {
                 let text = told.to_string();
@@ -548,12 +576,12 @@ fn sheets_that_are_full_or_nearly_so_are_offered_frames_for_20_and_21() {
     let stored = stored();
     let mut seen = BTreeSet::new();
     for vector in &stored[Kind::Sheets as usize] {
-        let counts = &vector.record[4 + 288..][..40];
+        let counts = &vector.record[5 + 288..][..40];
         let total: u64 = counts
             .chunks_exact(4)
             .map(|count| u64::from(u32::from_be_bytes(count.try_into().unwrap())))
             .sum();
-        if vector.record[4..][..288] == [0; 288] && total >= 65_534 {
+        if vector.record[..1] == [0] && vector.record[5..][..288] == [0; 288] && total >= 65_534 {
             seen.insert((total, limit_of(&vector.record), vector.reply[0]));
         }
     }
@@ -633,7 +661,7 @@ fn patterns_stand_byte_for_byte_as_told() {
     for (word, received) in words {
         (0..15).for_each(|i| air[14 * i + word] = (received >> i & 1) as u8);
     }
-    let mut header = [&[0, 0, 0, 5, 0, 210][..], &air, &[0; 46]].concat();
+    let mut header = [&[0, 0, 0, 0, 5, 0, 210][..], &air, &[0; 46]].concat();
     let patterns = [&[0x00, 0x07, 0x40, 0x01][..], &[0; 24]].concat();
     let accepted = [&[0; 27][..], &[6, 0, 0, 0, 5], &patterns].concat();
     let agrees = |kind: Kind, record: &[u8], reply: &[u8]| {
@@ -645,15 +673,15 @@ fn patterns_stand_byte_for_byte_as_told() {
     let refused = [&[8, 0, 0, 0, 0, 0, 0, 0x1F, 0xFF][..], &[0; 51]].concat();
     header.extend([0; 4]);
     agrees(Kind::Frames, &header, &refused);
-    let mut offered = [&[0, 0, 0, 5][..], &[0; 328], &air, &[0; 4]].concat();
+    let mut offered = [&[0, 0, 0, 0, 5][..], &[0; 328], &air, &[0; 4]].concat();
     let counted = [&refused[..], &[0; 288 + 31], &[1], &[0; 8]].concat();
     agrees(Kind::Sheets, &offered, &counted);
     // A limit of 4: the five flips are too many. A limit of 43: it is itself refused. They are counted after 1 to 8.
     for (limit, number, place, at) in [(4, 21, 5, 39), (43, 20, 43, 35)] {
         let mut refused = vec![0; 60];
         (refused[0], refused[8]) = (number, place);
-        (header[3], offered[3]) = (limit, limit);
-        agrees(Kind::Headers, &header[..262], &refused);
+        (header[4], offered[4]) = (limit, limit);
+        agrees(Kind::Headers, &header[..263], &refused);
         agrees(Kind::Frames, &header, &refused);
         let mut counted = [&refused[..], &[0; 328]].concat();
         counted[60 + 288 + at] = 1;
@@ -700,11 +728,109 @@ fn sources_with_a_record_and_without_one_are_asked_for() {
     assert!(stored.iter().any(|v| v.reply.ends_with(&sums)));
 }
 
+#[test]
+fn every_source_number_is_read_under_the_corrected_edition() {
+    let accepted: BTreeSet<u8> = stored()[Kind::Headers as usize]
+        .iter()
+        .filter(|v| v.record[0] == 1 && v.reply[0] == 0)
+        .map(|v| v.reply[9])
+        .collect();
+    assert!(accepted.into_iter().eq(0..128));
+}
+
+#[test]
+fn frames_of_each_edition_are_read_under_each() {
+    // Header bits 32 to 35, the edition it is read under, and the number that is given.
+    let mut seen = BTreeSet::new();
+    for vector in &stored()[Kind::Headers as usize] {
+        let header = header_of(Kind::Headers, &vector.record);
+        if header.len() == 210 && patterns_on_air(header) == [0; WORDS] {
+            // Bits 32 to 34 stand at positions 12 to 10 of word 6, bit 35 at position 14 of word 7.
+            let places = [12 * 14 + 6, 11 * 14 + 6, 10 * 14 + 6, 14 * 14 + 7];
+            let four = places.map(|place| header[place]);
+            seen.insert((four, vector.record[0], vector.reply[0]));
+        }
+    }
+    for n in 0..16_u8 {
+        let four = [n >> 3 & 1, n >> 2 & 1, n >> 1 & 1, n & 1];
+        for edition in [0, 1] {
+            assert!(seen.contains(&(four, edition, 0)), "{four:?} {edition}");
+            assert!(
+                n == 0 || seen.contains(&(four, edition, 4)),
+                "{four:?} {edition}"
+            );
+        }
+    }
+}
+
+#[test]
+fn every_edition_byte_above_0_is_corrected() {
+    let stored = stored();
+    for kind in [
+        Kind::Crc5,
+        Kind::Headers,
+        Kind::Writes,
+        Kind::Frames,
+        Kind::Wides,
+    ] {
+        let vectors = stored[kind as usize].iter().filter(|v| v.record[0] == 1);
+        for (vector, edition) in vectors.zip(2..=255) {
+            let mut record = vector.record.clone();
+            record[0] = edition;
+            let compared = compare(kind, &record, &vector.reply).unwrap();
+            assert_eq!(compared.differences, Vec::<String>::new());
+        }
+    }
+}
+
+#[test]
+fn wides_stand_byte_for_byte_as_told() {
+    // Source 97 as caller, counter 5, clean; on the sheet source 3 was heard, or 97 itself.
+    let mut header = Header::default();
+    header[Field::SrcId] = 97;
+    header[Field::FrCntTx] = 5;
+    header[Field::Caller] = 1;
+    seal(Edition::Corrected, &mut header, &[]);
+    let lane = |accepted, missed, last| {
+        let numbers = [accepted, 0, missed, 0].map(u32::to_be_bytes).concat();
+        [&numbers[..], &[1, last]].concat()
+    };
+    let silent = [0; 18];
+    let heard = [lane(2, 0, 1), lane(10, 0, 9)].concat();
+    let counts: Vec<u8> = (1..=10_u32).flat_map(u32::to_be_bytes).collect();
+    let wide = |edition: u8, source: u8| {
+        let rules = [edition, 0, 0, 0, 28];
+        let sheet = [&[source][..], &heard, &counts].concat();
+        [&rules[..], &sheet, &header.to_air(), &[0; 4]].concat()
+    };
+    let mut accepted = vec![0; 60];
+    (accepted[9], accepted[9 + 2], accepted[9 + 8]) = (97, 5, 1);
+    accepted[9 + 16..9 + 18].copy_from_slice(&[0x1F, 0xFF]);
+    accepted[9 + 18] = header[Field::Crc5] as u8;
+    let agrees = |record: &[u8], answer: &[u8], source: &[u8], heard: u64| {
+        let reply = [answer, source, &counts, &heard.to_be_bytes()].concat();
+        let differences = compare(Kind::Wides, record, &reply).unwrap().differences;
+        assert_eq!(differences, Vec::<String>::new());
+    };
+    // 55 refused and 12 accepted before; three counters were missed where it was heard.
+    let first = [&[97][..], &lane(1, 0, 5), &silent].concat();
+    agrees(&wide(1, 3), &accepted, &first, 68);
+    let third = [&[97][..], &lane(3, 3, 5), &lane(10, 0, 9)].concat();
+    agrees(&wide(1, 97), &accepted, &third, 68);
+    // 22: nothing changes, and the source is that of the record; one above 127 counts as 127.
+    let mut refused = vec![0; 60];
+    refused[0] = 22;
+    for (source, told) in [(3, 3), (97, 97), (127, 127), (128, 127), (255, 127)] {
+        let unchanged = [&[told][..], &heard].concat();
+        agrees(&wide(0, source), &refused, &unchanged, 67);
+    }
+}
+
 /// The last counters of source and lane that a record of `sheets` is about, where its frame was accepted: that of the
 /// frame's own lane and that of the other, each 255 where there is none.
 fn last_counters(vector: &Vector) -> (u8, u8) {
     let (src_id, caller) = (vector.reply[9], vector.reply[9 + 8]);
-    let source = &vector.record[4 + 36 * usize::from(src_id)..][..36];
+    let source = &vector.record[5 + 36 * usize::from(src_id)..][..36];
     let last = |lane: &[u8]| if lane[16] == 1 { lane[17] } else { 255 };
     let (as_caller, as_responder) = (last(&source[..18]), last(&source[18..]));
     if caller == 1 {
@@ -806,7 +932,7 @@ fn missing_and_further_replies_are_told() {
 #[test]
 fn what_is_no_record_is_not_compared() {
     assert_eq!(compare(Kind::Words, &[0], &[]), None);
-    assert_eq!(compare(Kind::Stored, &[12, 0], &[]), None);
+    assert_eq!(compare(Kind::Stored, &[13, 0], &[]), None);
     assert_eq!(compare(Kind::Stored, &[200], &[]), None);
     assert_eq!(compare(Kind::Stored, &[0, 0], &[]), None);
     assert_eq!(compare(Kind::Stored, &[], &[]).map(|c| c.records), Some(0));
@@ -837,7 +963,7 @@ fn stored_records_replies_and_lines_are_the_same_everywhere() {
     let text = lines(Kind::Stored).join("\n") + "\n";
     let replies = replies(Kind::Stored);
     assert!(bytes.len() <= 1_600_000 && replies.len() <= 1_400_000);
-    assert_eq!(hash(&bytes), 0x0EE7_DFFA_9857_4E58);
-    assert_eq!(hash(text.as_bytes()), 0xE490_D915_E011_8C21);
-    assert_eq!(hash(&replies), 0xA426_8EBA_27E7_98B3);
+    assert_eq!(hash(&bytes), 0x5D54_7E52_4C62_B855);
+    assert_eq!(hash(text.as_bytes()), 0x6107_BD6B_6010_B386);
+    assert_eq!(hash(&replies), 0x88EE_9B38_1B4C_F0B7);
 }

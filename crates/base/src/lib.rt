@@ -1,10 +1,16 @@
-// The one refusal of every layer and its numbers, and a writer's answer. What else stands here are definitions (specs/) and laws (proofs/) that several crates
+// The one refusal of every layer and its numbers, the edition, and a writer's answer. What else stands here are definitions (specs/) and laws (proofs/) that several crates
 // cite.
 
 // "A refusal carries number and place only": the number is one of those below, the place what the paper's table names beside it.
 pub struct Refusal {
     pub number: u8,
     pub place: usize,
+}
+
+// The edition of the rules: as the S-NET satellites fly them, or with CRC5 corrected.
+pub enum Edition {
+    Flown,
+    Corrected,
 }
 
 // The answer of a writer.
@@ -42,6 +48,9 @@ pub const LIMIT_ABOVE_42: u8 = 20;
 
 // "flips above the limit"
 pub const FLIPS_ABOVE_LIMIT: u8 = 21;
+
+// "a frame offered to a sheet of the other edition"
+pub const OTHER_EDITION: u8 = 22;
 
 // Power page: "payload under 8 bytes"
 pub const NO_PAGE_HEADER: u8 = 9;

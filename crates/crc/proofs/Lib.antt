@@ -3,6 +3,8 @@ pub mod Loop
 pub mod Linear
 pub mod ByTable
 pub mod Nine
-pub mod Flown
+pub mod Editions
 pub mod TwoNumbers
 pub mod Unseen
+pub mod Differences
+pub mod Apart

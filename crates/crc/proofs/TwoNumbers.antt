@@ -1,18 +1,20 @@
 -- CRC5 out of the header's two numbers: hi, header bits 0 to 29, and lo, header bits 30 to 69.
 -- Assumes nothing.
-use mathlib.Core.Path.{_≡_, sym, ap, _∙_}
+use mathlib.Core.Path.{_≡_, refl, sym, ap, _∙_}
 use Prim.Native.Nat.{ℕ, _+_, _-_, _*_, _/_, _%_, _^_, _≤_, _<_}
 use native.Mathlib.Nat.{div-one}
 use native.Mathlib.Omega.{arith}
 use lib.Dec.{lit<, lit≤}
 use lib.ListN.{length, getD}
 use lib.Pow.{shr-shr}
+use Rattle.base.specs.declared.Edition.{Edition}
+use Rattle.base.specs.declared.Edition.the-variants.{Flown, Corrected}
 use Rattle.base.proofs.Tabulate.{tabulate-length, tabulate-at}
 use Rattle.base.proofs.Fold.{Downward, down-starts, down-goes-on}
-use Rattle.crc.specs.Crc5.{filling, message, nineBytes, poly5, start5, crc5Over, countedFlown, crc5Of}
+use Rattle.crc.specs.Crc5.{filling, message, nineBytes, poly5, start5, crc5Over, countedFlown, countingBits, crc5Of}
 use Rattle.crc.specs.Halves.{headerBits}
 use Rattle.crc.proofs.Loop.{crcByte, down-bytes}
-use Rattle.crc.proofs.Flown.{counted-is}
+use Rattle.crc.proofs.Editions.{counted-is}
 
 -- byte 8: header bit 64 and the filling
 abbrev pub lastOf : ℕ → ℕ
@@ -70,17 +72,29 @@ module _ (hi lo : ℕ) (small : lo < 2 ^ 40) where
   unfolding crc5Over
   nine-ends i crc so h = down-bytes 5 poly5 start5 (nineBytes (headerBits hi lo)) i crc (so .done) h
 
--- the flown rule changes the lower number only
-module _ (lo counted : ℕ) (small : lo < 2 ^ 40) (is : counted ≡ countedFlown lo) where
+-- what counts differs in the lower number only
+flown-lower : (hi lo : ℕ) → lo < 2 ^ 40 → hi < 2 ^ 30 → headerBits hi (countedFlown lo) ≡ countedFlown (headerBits hi lo)
+flown-lower hi lo small h =
+    let first : headerBits hi lo / 2 ^ 38 % 2 ^ 32 ≡ hi * 4 + lo / 2 ^ 38 % 2 ^ 32 = omega arith in
+    let last : headerBits hi lo % 2 ^ 34 ≡ lo % 2 ^ 34 = omega arith in
+    rw (counted-is lo, counted-is (headerBits hi lo), first, last) (omega arith)
+
+-- THE TWO EDITIONS
+lower-lt : (edition : Edition) (lo : ℕ) → lo < 2 ^ 40 → countingBits edition lo < 2 ^ 40
+lower-lt Flown lo small = rw (counted-is lo) (omega arith)
+lower-lt Corrected lo small = small
+
+lower-only : (edition : Edition) (hi lo : ℕ) → lo < 2 ^ 40 → hi < 2 ^ 30 → headerBits hi (countingBits edition lo) ≡ countingBits edition (headerBits hi lo)
+lower-only Flown hi lo small h = flown-lower hi lo small h
+lower-only Corrected hi lo small h = refl
+
+pub counts-flown : (edition : Edition) (lo counted : ℕ) → edition ≡ Flown → counted ≡ countedFlown lo → counted ≡ countingBits edition lo
+counts-flown edition lo counted e is = is ∙ ap (λ (x : Edition). countingBits x lo) (sym e)
+
+module _ (edition : Edition) (lo counted : ℕ) (small : lo < 2 ^ 40) (is : counted ≡ countingBits edition lo) where
   pub counted-lt : counted < 2 ^ 40
-  counted-lt = rw (is, counted-is lo) (omega arith)
+  counted-lt = rw is (lower-lt edition lo small)
 
-  lower-only : (hi : ℕ) → hi < 2 ^ 30 → headerBits hi counted ≡ countedFlown (headerBits hi lo)
-  lower-only hi h =
-      let first : headerBits hi lo / 2 ^ 38 % 2 ^ 32 ≡ hi * 4 + lo / 2 ^ 38 % 2 ^ 32 = omega arith in
-      let last : headerBits hi lo % 2 ^ 34 ≡ lo % 2 ^ 34 = omega arith in
-      rw (is, counted-is lo, counted-is (headerBits hi lo), first, last) (omega arith)
-
-  pub counted-in : (hi crc : ℕ) → hi < 2 ^ 30 → crc ≡ crc5Over (headerBits hi counted) → crc ≡ crc5Of (headerBits hi lo)
+  pub counted-in : (hi crc : ℕ) → hi < 2 ^ 30 → crc ≡ crc5Over (headerBits hi counted) → crc ≡ crc5Of edition (headerBits hi lo)
   unfolding crc5Of
-  counted-in hi crc h e = e ∙ ap crc5Over (lower-only hi h)
+  counted-in hi crc h e = e ∙ ap (λ (x : ℕ). crc5Over (headerBits hi x)) is ∙ ap crc5Over (lower-only edition hi lo small h)

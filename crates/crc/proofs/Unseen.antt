@@ -1,18 +1,19 @@
--- What CRC5 does not see: header bits 32 to 35, by the flown rule, and 65 to 69, which carry it.
+-- What CRC5 does not see: header bits 65 to 69, which carry it, and those that do not count, 32 to 35 by the flown rule.
 -- Assumes nothing.
 use mathlib.Core.Path.{_≡_, sym, ap, _∙_}
-use mathlib.Core.Logic.{_⊎_, inl, inr, ⊎-elim}
+use mathlib.Core.Logic.{⊎-elim}
 use mathlib.Core.List.{List, reverse}
 use Prim.Native.Nat.{ℕ, _+_, _-_, _*_, _/_, _%_, _^_, _≤_, _<_}
 use native.Mathlib.Omega.{arith}
 use lib.Pow.{shr-shr}
+use Rattle.base.specs.declared.Edition.{Edition}
 use Rattle.base.proofs.Tests.{lt-or-ge}
 use Rattle.base.proofs.Tabulate.{tabulate-same}
 use Rattle.crc.specs.Crc.{crcOf, bitsOfBytes}
-use Rattle.crc.specs.Crc5.{headerBit, countedFlown, message, nineBytes, poly5, start5, crc5Over, crc5Of}
+use Rattle.crc.specs.Crc5.{headerBit, countingBits, message, nineBytes, poly5, start5, crc5Over, crc5Of}
 use Rattle.base.proofs.Sums.{same-bits}
 use Rattle.crc.proofs.Nine.{messageBit, header-above, message-header, message-filling}
-use Rattle.crc.proofs.Flown.{flown-lost, flown-kept}
+use Rattle.crc.proofs.Editions.{Counts, Lost, counting-kept, counting-lost, counts-or-lost}
 
 module _ (n m : ℕ) where
   -- two headers whose bits 0 to 64 are the same have the same message
@@ -35,28 +36,20 @@ module _ (n m : ℕ) where
           let e : 71 - (7 + 8 * i - q) ≡ (8 * (8 - i)) + q = omega arith in
           rw (shr-shr (message n), shr-shr (message m)) (rw e at (message-same same (7 + 8 * i - q) (omega arith)))
 
--- by the flown rule bits 32 to 35 are not in it either
-module _ (n m : ℕ) (same : (k : ℕ) → k < 65 → (k < 32) ⊎ (36 ≤ k) → headerBit n k ≡ headerBit m k) where
-  kept : (k : ℕ) → k < 65 → (k < 32) ⊎ (36 ≤ k) → headerBit (countedFlown n) k ≡ headerBit (countedFlown m) k
-  kept k h there = flown-kept n k there ∙ same k h there ∙ sym (flown-kept m k there)
-
-  counted-same : (k : ℕ) → k < 65 → headerBit (countedFlown n) k ≡ headerBit (countedFlown m) k
-  counted-same k h =
-      ⊎-elim
-      (λ (l : k < 32). kept k h (inl l))
-      (λ (l : 32 ≤ k).
-      ⊎-elim
-      (λ (u : k < 36). flown-lost n k l u ∙ sym (flown-lost m k l u))
-      (λ (u : 36 ≤ k). kept k h (inr u))
-      (lt-or-ge k 36))
-      (lt-or-ge k 32)
-
-  pub flown-same : crc5Of n ≡ crc5Of m
+-- nor are the bits that do not count
+module _ (edition : Edition) (n m : ℕ) (same : (k : ℕ) → k < 65 → Counts edition k → headerBit n k ≡ headerBit m k) where
+  pub counting-same : crc5Of edition n ≡ crc5Of edition m
   unfolding crc5Of
-  flown-same = over-same (countedFlown n) (countedFlown m) counted-same
+  counting-same =
+      over-same (countingBits edition n) (countingBits edition m)
+      (λ k h.
+      ⊎-elim
+      (λ (there : Counts edition k). counting-kept edition n k there ∙ same k h there ∙ sym (counting-kept edition m k there))
+      (λ (there : Lost edition k). counting-lost edition n k there ∙ sym (counting-lost edition m k there))
+      (counts-or-lost edition k))
 
 -- bits 65 to 69 may be any
-pub carried-same : (n m : ℕ) → n / 2 ^ 5 ≡ m / 2 ^ 5 → crc5Of n ≡ crc5Of m
-carried-same n m e =
-    flown-same n m
+pub carried-same : (edition : Edition) (n m : ℕ) → n / 2 ^ 5 ≡ m / 2 ^ 5 → crc5Of edition n ≡ crc5Of edition m
+carried-same edition n m e =
+    counting-same edition n m
     (λ k h there. header-above n k h ∙ ap (λ (x : ℕ). x / 2 ^ (64 - k) % 2) e ∙ sym (header-above m k h))

@@ -9,8 +9,9 @@ use native.Mathlib.Omega.{arith}
 use lib.Bits.{bitXor, xor-lt}
 use lib.Dec.{eqb, lit<}
 use lib.Pow.{pow-pos}
+use Rattle.base.specs.declared.Edition.{Edition}
 use Rattle.crc.specs.Crc.{crcStep, crcOf, bitsOfBytes, poly13, start13, crc13Of}
-use Rattle.crc.specs.Crc5.{countedFlown, nineBytes, poly5, start5, crc5Over, crc5Of}
+use Rattle.crc.specs.Crc5.{countingBits, nineBytes, poly5, start5, crc5Over, crc5Of}
 
 -- one of two, each below m
 either-lt : (b : Bool) (m x y : ℕ) → x < m → y < m → cond b x y < m
@@ -43,6 +44,6 @@ pub over-lt : (counted : ℕ) → crc5Over counted < 32
 unfolding crc5Over
 over-lt counted = crc-lt 5 poly5 (lit< tt) start5 (bitsOfBytes (reverse (nineBytes counted))) (lit< tt)
 
-pub crc5-lt : (n : ℕ) → crc5Of n < 32
+pub crc5-lt : (edition : Edition) (n : ℕ) → crc5Of edition n < 32
 unfolding crc5Of
-crc5-lt n = over-lt (countedFlown n)
+crc5-lt edition n = over-lt (countingBits edition n)

@@ -3,6 +3,8 @@
 use mathlib.Core.List.{List, [], _∷_, reverse}
 use Prim.Native.Nat.{ℕ, _+_, _-_, _*_, _/_, _%_, _^_}
 use lib.ListN.{set}
+use Rattle.base.specs.declared.Edition.{Edition}
+use Rattle.base.specs.declared.Edition.the-variants.{Flown, Corrected}
 use Rattle.base.specs.Lists.{tabulate}
 use Rattle.base.specs.Parts.{partsOf, joined}
 use Rattle.crc.specs.Crc.{byteBits, crcOf, bitsOfBytes}
@@ -48,5 +50,10 @@ flownWidths = 32 ∷ 4 ∷ 34 ∷ []
 unfoldable pub countedFlown : ℕ → ℕ
 countedFlown n = joined flownWidths (set (partsOf flownWidths n) 1 0)
 
-unfoldable pub crc5Of : ℕ → ℕ
-crc5Of n = crc5Over (countedFlown n)
+-- the header bits that count: "The second edition corrects CRC5: bits 32 to 35 count like the others."
+abbrev pub countingBits : Edition → ℕ → ℕ
+countingBits Flown n = countedFlown n
+countingBits Corrected n = n
+
+unfoldable pub crc5Of : Edition → ℕ → ℕ
+crc5Of edition n = crc5Over (countingBits edition n)

@@ -1,8 +1,9 @@
 // Checksums: CRC13 of a payload, byte by byte, and CRC5 of a header, bit by bit.
+use base::Edition;
 ghost use mathlib.Core.Path.{_≡_};
 ghost use Prim.Native.Nat.{_+_, _*_, _<_, _^_};
 ghost use Rattle.crc.specs.Crc.{crcStep, crcOf, byteBits, bitsOf, poly13, crc13Of};
-ghost use Rattle.crc.specs.Crc5.{poly5, countedFlown, crc5Over, crc5Of};
+ghost use Rattle.crc.specs.Crc5.{poly5, countedFlown, countingBits, crc5Over, crc5Of};
 ghost use Rattle.crc.specs.Halves.{hiWidth, loWidth, headerBits};
 ghost use Rattle.crc.specs.Steps.{steps13};
 
@@ -116,11 +117,21 @@ fn counted_flown(lo: u64) -> u64
     lo / BIT_31 * BIT_31 + lo % BIT_35
 }
 
-// CRC5 of a header, by the flown rule.
-pub fn crc5(hi: u64, lo: u64) -> u8
+// What counts of `lo` under an edition.
+fn counting(edition: Edition, lo: u64) -> u64
+    ensures { λ r. ⌜ r ≡ countingBits edition lo ⌝ }
+{
+    match edition {
+        Edition::Flown => counted_flown(lo),
+        Edition::Corrected => lo,
+    }
+}
+
+// CRC5 of a header under an edition.
+pub fn crc5(edition: Edition, hi: u64, lo: u64) -> u8
     requires { ⌜ hi < 2 ^ hiWidth ⌝ }
     requires { ⌜ lo < 2 ^ loWidth ⌝ }
-    ensures { λ r. ⌜ r ≡ crc5Of (headerBits hi lo) ⌝ }
+    ensures { λ r. ⌜ r ≡ crc5Of edition (headerBits hi lo) ⌝ }
 {
-    crc5_over(hi, counted_flown(lo))
+    crc5_over(hi, counting(edition, lo))
 }

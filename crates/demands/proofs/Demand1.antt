@@ -9,6 +9,8 @@ use Prim.Native.Nat.{ℕ, _≤_, _<_}
 use lib.IntN.{ℤ}
 use lib.ListN.{length, replicate}
 use Rattle.base.specs.declared.Refusal.{Refusal}
+use mathlib.Core.Bool.{false}
+use Rattle.base.specs.declared.Edition.{Edition}
 use Rattle.base.specs.Checks.{Exactly, refusal}
 use Rattle.header.specs.declared.Fields.{Fields}
 use Rattle.header.specs.declared.Answer.the-variants.{Refused}
@@ -27,8 +29,8 @@ use Rattle.page.proofs.Given.{page-exactly, shown-exactly, rows-exactly, rows-u
 use Rattle.frame.specs.Frames.{Frame, frameChecks, frameOf}
 use Rattle.frame.proofs.Rules.{refused-exactly}
 use Rattle.sheet.specs.declared.Sheet.{Sheet}
-use Rattle.sheet.specs.Sheets.{heardOf, fullSheet, offerChecks, offerOf}
-use Rattle.sheet.proofs.Offering.{answers-frame, full-refuses, offered-answer}
+use Rattle.sheet.specs.Sheets.{heardOf, fullSheet, sameEdition, editionOf, offerChecks, offerOf}
+use Rattle.sheet.proofs.Offering.{answers-frame, full-refuses, other-refuses, offered-answer}
 use Rattle.sheet.proofs.Refusals.{offered-exactly, refused-keeps}
 use Rattle.air.specs.Air.{wordCount}
 
@@ -40,18 +42,18 @@ header-refused-exactly = read-exactly
 pub frame-refused-exactly : (f : Frame) (why : Refusal) → Exactly (frameOf f) (Refused why) (frameChecks f)
 frame-refused-exactly = refused-exactly
 
--- 17, and then the same
-pub offer-refused-exactly : (sheet : Sheet) (f : Frame) (why : Refusal) → Exactly (offerOf sheet f .read .answer) (Refused why) (offerChecks sheet f)
+-- 17, 22, and then the same, on a sheet of either edition
+pub offer-refused-exactly : (own : Edition) (sheet : Sheet) (f : Frame) (why : Refusal) → Exactly (offerOf own sheet f .read .answer) (Refused why) (offerChecks own sheet f)
 offer-refused-exactly = offered-exactly
 
 -- 13 to 15
-pub write-refused-exactly : (f : Fields) (payload : List ℕ) (room : ℕ) (why : Refusal) → Exactly (writeHeaderOf f payload room) (NotWritten why) (writeChecks f payload room)
+pub write-refused-exactly : (edition : Edition) (f : Fields) (payload : List ℕ) (room : ℕ) (why : Refusal) → Exactly (writeHeaderOf edition f payload room) (NotWritten why) (writeChecks edition f payload room)
 write-refused-exactly = write-exactly
 
 -- a refused write leaves every byte as it was
-pub write-refused-unchanged : (f : Fields) (payload before after : List ℕ) (r : Written) (why : Refusal)
-    → HeaderWritten f payload before r after → r ≡ NotWritten why → after ≡ before
-write-refused-unchanged f payload before after r why so e = so .bytes ∙ ap (λ (w : Written). afterWrite w f payload before) e
+pub write-refused-unchanged : (edition : Edition) (f : Fields) (payload before after : List ℕ) (r : Written) (why : Refusal)
+    → HeaderWritten edition f payload before r after → r ≡ NotWritten why → after ≡ before
+write-refused-unchanged edition f payload before after r why so e = so .bytes ∙ ap (λ (w : Written). afterWrite w edition f payload before) e
 
 -- 9 to 12
 pub page-refused-exactly : (payload : List ℕ) (number place : ℕ)
@@ -70,13 +72,18 @@ pub rows-refused-unchanged : (rows : List ℤ) (before after : List ℕ) (r : Wr
 rows-refused-unchanged = rows-unchanged
 
 -- 17: "sheet full, checked before anything else, sheet unchanged (place 65,535)"
-pub offer-refused-full : (sheet : Sheet) (f : Frame) → fullSheet ≤ heardOf sheet → offerOf sheet f ≡ record { read = record { answer = Refused (refusal 17 fullSheet); patterns = replicate wordCount 0 }; sheet = sheet }
+pub offer-refused-full : (own : Edition) (sheet : Sheet) (f : Frame) → fullSheet ≤ heardOf own sheet → offerOf own sheet f ≡ record { read = record { answer = Refused (refusal 17 fullSheet); patterns = replicate wordCount 0 }; sheet = sheet }
 offer-refused-full = full-refuses
 
+-- 22: "a frame offered to a sheet of the other edition .. (place: 0); sheet unchanged"
+pub offer-refused-other : (own : Edition) (sheet : Sheet) (f : Frame) → heardOf own sheet < fullSheet → sameEdition (editionOf f) own ≡ false
+    → offerOf own sheet f ≡ record { read = record { answer = Refused (refusal 22 0); patterns = replicate wordCount 0 }; sheet = sheet }
+offer-refused-other = other-refuses
+
 -- before that the sheet gives the frame's own answer
-pub offer-answers : (sheet : Sheet) (f : Frame) → heardOf sheet < fullSheet → offerOf sheet f .read .answer ≡ frameOf f
-offer-answers sheet f room = offered-answer sheet f ∙ answers-frame sheet f room
+pub offer-answers : (own : Edition) (sheet : Sheet) (f : Frame) → heardOf own sheet < fullSheet → editionOf f ≡ own → offerOf own sheet f .read .answer ≡ frameOf f
+offer-answers own sheet f room mine = offered-answer own sheet f ∙ answers-frame own sheet f room mine
 
 -- and an offered frame that is refused, whatever the number, leaves the frame records as they were
-pub offer-refused-unchanged : (sheet : Sheet) (f : Frame) (why : Refusal) → offerOf sheet f .read .answer ≡ Refused why → offerOf sheet f .sheet .sources ≡ sheet .sources
+pub offer-refused-unchanged : (own : Edition) (sheet : Sheet) (f : Frame) (why : Refusal) → offerOf own sheet f .read .answer ≡ Refused why → offerOf own sheet f .sheet .sources ≡ sheet .sources
 offer-refused-unchanged = refused-keeps

@@ -1,6 +1,6 @@
 -- DEMAND 2. "A frame is accepted exactly when the published rules accept it. Writing gives the bits those rules fix, and no others."
 -- `Accepts` (crates/frame/specs/Accepting.antt) is the rules' own statement; `frameRead` is what the reader's contract cites, and
--- `HeaderWritten` is the writer's contract.
+-- `HeaderWritten` is the writer's contract. "Demands 2 and 3 hold for each edition, reader and writer under the same one."
 -- Assumes nothing.
 use mathlib.Core.Path.{_≡_, sym, _∙_}
 use mathlib.Core.List.{List}
@@ -30,16 +30,16 @@ accepted-exactly f h flips patterns = (reader-then-rules f h flips patterns, rul
 pub accepted-with-one : (f : Frame) (h g : Header) (k m : ℕ) (p q : List ℕ) → Accepts f h k p → Accepts f g m q → (h ≡ g) × (k ≡ m) × (p ≡ q)
 accepted-with-one = one-header
 
--- the writer was handed some fields, a payload and an output, and wrote
-module _ (f : Fields) (payload before after : List ℕ) (written : HeaderWritten f payload before Done after) where
-  so : Sent f payload after
-  so = sent f payload before after written
+-- the writer was handed an edition, some fields, a payload and an output, and wrote; the reader is handed rules of the same edition
+module _ (rules : Rules) (f : Fields) (payload before after : List ℕ) (written : HeaderWritten (rules .edition) f payload before Done after) where
+  so : Sent (rules .edition) f payload after
+  so = sent (rules .edition) f payload before after written
 
   -- "the bits those rules fix": under any limit of at most 42, the rules accept what stands in the output with the fields, PduLength and the
   -- checksums, and no flips
-  pub written-accepted : (rules : Rules) → rules .limit ≤ mostFlips → Accepts (frame rules (take airBits after) payload) (headerFor f payload) 0 (replicate wordCount 0)
-  written-accepted rules = rw (so .air) (writing.written-accepted f payload rules (so .writable))
+  pub written-accepted : rules .limit ≤ mostFlips → Accepts (frame rules (take airBits after) payload) (headerFor (rules .edition) f payload) 0 (replicate wordCount 0)
+  written-accepted = rw (so .air) (writing.written-accepted rules f payload (so .writable))
 
   -- "and no others": whatever the rules accept so, under any limit, are these bits
-  pub written-only : (rules : Rules) (air : List ℕ) → Accepts (frame rules air payload) (headerFor f payload) 0 (replicate wordCount 0) → air ≡ take airBits after
-  written-only rules air accepts = writing.only-written f payload rules air accepts ∙ sym (so .air)
+  pub written-only : (air : List ℕ) → Accepts (frame rules air payload) (headerFor (rules .edition) f payload) 0 (replicate wordCount 0) → air ≡ take airBits after
+  written-only air accepts = writing.only-written rules f payload air accepts ∙ sym (so .air)

@@ -10,6 +10,8 @@ use Prim.Native.Nat.{ℕ, _+_, _*_, _/_, _%_, _^_, _<_, _≤_}
 use lib.Count.{onesIn}
 use lib.Dec.{leb, eqb, lit≤}
 use lib.ListN.{length, getD, take}
+use Rattle.base.specs.declared.Edition.{Edition}
+use Rattle.base.specs.declared.Edition.the-variants.{Flown}
 use Rattle.base.specs.Checks.{refusal}
 use Rattle.base.specs.Lists.{AreBits, howMany}
 use Rattle.word.specs.Words.{wordLimit, positions}
@@ -41,34 +43,35 @@ table-equals-search = table-answers
 pub table-rows : (howMany tableRows (λ r. leb (onesIn positions (rowOf r)) radius) ≡ 576) × (howMany tableRows (λ r. eqb (rowOf r) mark) ≡ 448)
 table-rows = (rows-with-pattern, rows-marked)
 
--- the writer was handed some fields, a payload and an output, and wrote; on the way some of the 210 bits were flipped; and the reader was
--- handed "a limit of at most 42"
-module _ (f : Fields) (payload before after : List ℕ) (written : HeaderWritten f payload before Done after)
-    (air : List ℕ) (long : length air ≡ airBits) (bits : AreBits air) (rules : Rules) (allowed : rules .limit ≤ mostFlips) where
-  so : Sent f payload after
-  so = sent f payload before after written
+-- the writer was handed an edition, some fields, a payload and an output, and wrote; on the way some of the 210 bits were flipped; and the
+-- reader was handed rules of the same edition with "a limit of at most 42"
+module _ (rules : Rules) (allowed : rules .limit ≤ mostFlips) (f : Fields) (payload before after : List ℕ) (written : HeaderWritten (rules .edition) f payload before Done after)
+    (air : List ℕ) (long : length air ≡ airBits) (bits : AreBits air) where
+  so : Sent (rules .edition) f payload after
+  so = sent (rules .edition) f payload before after written
 
-  -- "a written header with at most three flips in each word", and "the total of flips to be at most the limit", "reads back as that very
-  -- header with the exact number of flips"
-  pub three-in-each-word : ((j : ℕ) → j < wordCount → flipsInWord air (take airBits after) j ≤ radius) → flipsBetween air (take airBits after) ≤ rules .limit
-      → frameRead (frame rules air payload) ≡ record { answer = Accepted (headerFor f payload) (flipsBetween air (take airBits after)); patterns = flipPatterns air (take airBits after) }
-  three-in-each-word = rw (so .air) (restored-frame f payload air bits (so .writable) long rules allowed)
+  -- "reads back as that very header with the exact number of flips", and the exact pattern of every word
+  abbrev pub ReadBack : Type 0
+  ReadBack =
+      frameRead (frame rules air payload)
+      ≡ record { answer = Accepted (headerFor (rules .edition) f payload) (flipsBetween air (take airBits after)); patterns = flipPatterns air (take airBits after) }
+
+  -- "a written header with at most three flips in each word", and "the total of flips to be at most the limit"
+  pub three-in-each-word : ((j : ℕ) → j < wordCount → flipsInWord air (take airBits after) j ≤ radius) → flipsBetween air (take airBits after) ≤ rules .limit → ReadBack
+  three-in-each-word = rw (so .air) (restored-frame rules f payload air bits (so .writable) long allowed)
 
   -- "or a burst": under a limit l a burst of up to l neighbouring bits is always undone. Its flips then keep within the limit.
-  pub burst-undone : (start : ℕ) → Burst (rules .limit) start air (take airBits after)
-      → frameRead (frame rules air payload) ≡ record { answer = Accepted (headerFor f payload) (flipsBetween air (take airBits after)); patterns = flipPatterns air (take airBits after) }
-  burst-undone = rw (so .air) (restored-burst f payload air bits (so .writable) long rules allowed)
+  pub burst-undone : (start : ℕ) → Burst (rules .limit) start air (take airBits after) → ReadBack
+  burst-undone = rw (so .air) (restored-burst rules f payload air bits (so .writable) long allowed)
 
 -- "a burst of up to 42 neighbouring bits" needs the limit 42, which the listing names; where no limit is named, 28 are undone
-module _ (f : Fields) (payload before after : List ℕ) (written : HeaderWritten f payload before Done after)
+module _ (edition : Edition) (f : Fields) (payload before after : List ℕ) (written : HeaderWritten edition f payload before Done after)
     (air : List ℕ) (long : length air ≡ airBits) (bits : AreBits air) where
-  pub burst-of-42 : (start : ℕ) → Burst 42 start air (take airBits after)
-      → frameRead (frame listedRules air payload) ≡ record { answer = Accepted (headerFor f payload) (flipsBetween air (take airBits after)); patterns = flipPatterns air (take airBits after) }
-  burst-of-42 = burst-undone f payload before after written air long bits listedRules (lit≤ tt)
+  pub burst-of-42 : (start : ℕ) → Burst 42 start air (take airBits after) → ReadBack (listedRules edition) (lit≤ tt) f payload before after written air long bits
+  burst-of-42 = burst-undone (listedRules edition) (lit≤ tt) f payload before after written air long bits
 
-  pub burst-of-28 : (start : ℕ) → Burst 28 start air (take airBits after)
-      → frameRead (frame usualRules air payload) ≡ record { answer = Accepted (headerFor f payload) (flipsBetween air (take airBits after)); patterns = flipPatterns air (take airBits after) }
-  burst-of-28 = burst-undone f payload before after written air long bits usualRules (lit≤ tt)
+  pub burst-of-28 : (start : ℕ) → Burst 28 start air (take airBits after) → ReadBack (usualRules edition) (lit≤ tt) f payload before after written air long bits
+  burst-of-28 = burst-undone (usualRules edition) (lit≤ tt) f payload before after written air long bits
 
 -- "the exact pattern of every word": bit i of pattern j says whether air bit 14 i + j was flipped, and the ones are all flips
 pub pattern-bits : (x y : List ℕ) (i j : ℕ) → i < positions → j < wordCount → getD (flipPatterns x y) j 0 / 2 ^ i % 2 ≡ cond (differsAt x y (wordCount * i + j)) 1 0
@@ -78,5 +81,5 @@ pub pattern-ones : (x y : List ℕ) → flipTotal (flipPatterns x y) ≡ flipsBe
 pattern-ones = flipPatterns-total
 
 -- 42 is the limit: a header of zeros whose first 43 bits are flipped is refused
-pub not-43 : (flipsBetween (burstZeros 43) sentZeros ≡ 43) × (flipsInWord (burstZeros 43) sentZeros 0 ≡ 4) × (frameOf (frame listedRules (burstZeros 43) []) ≡ Refused (refusal 3 0))
+pub not-43 : (flipsBetween (burstZeros 43) sentZeros ≡ 43) × (flipsInWord (burstZeros 43) sentZeros 0 ≡ 4) × (frameOf (frame (listedRules Flown) (burstZeros 43) []) ≡ Refused (refusal 3 0))
 not-43 = burst-of-43

@@ -16,6 +16,8 @@ use Rattle.header.specs.declared.Read.{Read}
 use Rattle.header.specs.declared.Rules.{Rules}
 use Rattle.header.specs.declared.Answer.{Answer}
 use Rattle.air.specs.WordRepairs.{worstOf}
+use Rattle.base.specs.declared.Edition.{Edition}
+use Rattle.base.specs.declared.Edition.the-variants.{Flown, Corrected}
 use Rattle.base.specs.declared.Written.{Written}
 use Rattle.header.specs.Fields.{satelliteOf, radioOf}
 use Rattle.header.specs.Rules.{usualRules}
@@ -27,8 +29,13 @@ use Rattle.sheet.specs.declared.Lane.{Lane}
 use Rattle.sheet.specs.declared.Display.{Display}
 use Rattle.sheet.specs.declared.Sheet.{Sheet}
 use Rattle.sheet.specs.declared.Offered.{Offered}
+use Rattle.sheet.specs.declared.wide.WideSheet.{WideSheet}
+use Rattle.sheet.specs.declared.wide.WideOffered.{WideOffered}
+use Rattle.sheet.specs.Wide.{held, widened, wideOffered}
 use Rattle.sheet.specs.Records.{nextOf}
 use Rattle.sheet.specs.Sheets.{newSheet, acceptedOf, refusedOf, heardOf, fullOf, offerOf, displayOf}
+use Rattle.lines.specs.declared.Tally.{Tally}
+use Rattle.lines.specs.Tallies.{totalOf}
 use Rattle.record.specs.declared.Cut.{Cut}
 use Rattle.record.specs.Records.{cutOf}
 use Rattle.page.specs.declared.PageAnswer.{PageAnswer}
@@ -69,18 +76,18 @@ satellite-one «src_id» r s = one
 pub radio-one : («src_id» r s : ℕ) → r ≡ radioOf «src_id» → s ≡ radioOf «src_id» → r ≡ s
 radio-one «src_id» r s = one
 
-pub usual-one : (r s : Rules) → r ≡ usualRules → s ≡ usualRules → r ≡ s
-usual-one r s = one
+pub usual-one : (edition : Edition) (r s : Rules) → r ≡ usualRules edition → s ≡ usualRules edition → r ≡ s
+usual-one edition r s = one
 
 pub read-header-one : (rules : Rules) (air : List ℕ) (r s : Read) → r ≡ headerRead (signal rules air) → s ≡ headerRead (signal rules air) → r ≡ s
 read-header-one rules air r s = one
 
 -- the answer, and every byte of the output afterwards
-pub write-header-one : (fields : Fields) (payload out : List ℕ) (r s : Written) (out-r out-s : List ℕ)
-    → HeaderWritten fields payload out r out-r → HeaderWritten fields payload out s out-s → (r ≡ s) × (out-r ≡ out-s)
-write-header-one fields payload out r s out-r out-s a b =
+pub write-header-one : (edition : Edition) (fields : Fields) (payload out : List ℕ) (r s : Written) (out-r out-s : List ℕ)
+    → HeaderWritten edition fields payload out r out-r → HeaderWritten edition fields payload out s out-s → (r ≡ s) × (out-r ≡ out-s)
+write-header-one edition fields payload out r s out-r out-s a b =
     let answers : r ≡ s = one (a .answered) (b .answered) in
-    (answers, a .bytes ∙ ap (λ (w : Written). afterWrite w fields payload out) answers ∙ sym (b .bytes))
+    (answers, a .bytes ∙ ap (λ (w : Written). afterWrite w edition fields payload out) answers ∙ sym (b .bytes))
 
 pub read-frame-one : (rules : Rules) (air payload : List ℕ) (r s : Read) → r ≡ frameRead (frame rules air payload) → s ≡ frameRead (frame rules air payload) → r ≡ s
 read-frame-one rules air payload r s = one
@@ -98,30 +105,56 @@ scaling-of-one row r s = one
 pub shown-one : (k : Scaling) (x : ℤ) (r s : ShownAnswer) → r ≡ shownOf k x → s ≡ shownOf k x → r ≡ s
 shown-one k x r s = one
 
-pub new-sheet-one : (r s : Sheet) → r ≡ newSheet → s ≡ newSheet → r ≡ s
+pub new-sheet-one : (r s : Sheet) → r ≡ newSheet Flown → s ≡ newSheet Flown → r ≡ s
 new-sheet-one r s = one
 
 -- the answer, and the whole sheet afterwards
-pub offer-one : (sheet : Sheet) (rules : Rules) (air payload : List ℕ) (r s : Offered) → r ≡ offerOf sheet (frame rules air payload) → s ≡ offerOf sheet (frame rules air payload) → r ≡ s
+pub offer-one : (sheet : Sheet) (rules : Rules) (air payload : List ℕ) (r s : Offered) → r ≡ offerOf Flown sheet (frame rules air payload) → s ≡ offerOf Flown sheet (frame rules air payload) → r ≡ s
 offer-one sheet rules air payload r s = one
 
-pub accepted-one : (sheet : Sheet) (r s : ℕ) → r ≡ acceptedOf sheet → s ≡ acceptedOf sheet → r ≡ s
+pub accepted-one : (sheet : Sheet) (r s : ℕ) → r ≡ acceptedOf Flown sheet → s ≡ acceptedOf Flown sheet → r ≡ s
 accepted-one sheet r s = one
 
 pub refused-one : (sheet : Sheet) (r s : ℕ) → r ≡ refusedOf sheet → s ≡ refusedOf sheet → r ≡ s
 refused-one sheet r s = one
 
-pub heard-one : (sheet : Sheet) (r s : ℕ) → r ≡ heardOf sheet → s ≡ heardOf sheet → r ≡ s
+pub heard-one : (sheet : Sheet) (r s : ℕ) → r ≡ heardOf Flown sheet → s ≡ heardOf Flown sheet → r ≡ s
 heard-one sheet r s = one
 
-pub full-one : (sheet : Sheet) (r s : Bool) → r ≡ fullOf sheet → s ≡ fullOf sheet → r ≡ s
+pub full-one : (sheet : Sheet) (r s : Bool) → r ≡ fullOf Flown sheet → s ≡ fullOf Flown sheet → r ≡ s
 full-one sheet r s = one
 
 pub next-one : (lane : Lane) («fr_cnt_tx» flips : ℕ) (r s : Lane) → r ≡ nextOf lane «fr_cnt_tx» flips → s ≡ nextOf lane «fr_cnt_tx» flips → r ≡ s
 next-one lane «fr_cnt_tx» flips r s = one
 
-pub display-of-one : (sheet : Sheet) (source : ℕ) (r s : Display) → r ≡ displayOf sheet source → s ≡ displayOf sheet source → r ≡ s
+pub display-of-one : (sheet : Sheet) (source : ℕ) (r s : Display) → r ≡ displayOf Flown sheet source → s ≡ displayOf Flown sheet source → r ≡ s
 display-of-one sheet source r s = one
+
+-- the same of the wide sheet
+pub new-wide-sheet-one : (r s : WideSheet) → r ≡ widened (newSheet Corrected) → s ≡ widened (newSheet Corrected) → r ≡ s
+new-wide-sheet-one r s = one
+
+pub offer-wide-one : (sheet : WideSheet) (rules : Rules) (air payload : List ℕ) (r s : WideOffered)
+    → r ≡ wideOffered (offerOf Corrected (held sheet) (frame rules air payload)) → s ≡ wideOffered (offerOf Corrected (held sheet) (frame rules air payload)) → r ≡ s
+offer-wide-one sheet rules air payload r s = one
+
+pub display-of-wide-one : (sheet : WideSheet) (source : ℕ) (r s : Display) → r ≡ displayOf Corrected (held sheet) source → s ≡ displayOf Corrected (held sheet) source → r ≡ s
+display-of-wide-one sheet source r s = one
+
+pub accepted-wide-one : (sheet : WideSheet) (r s : ℕ) → r ≡ acceptedOf Corrected (held sheet) → s ≡ acceptedOf Corrected (held sheet) → r ≡ s
+accepted-wide-one sheet r s = one
+
+pub refused-wide-one : (sheet : WideSheet) (r s : ℕ) → r ≡ refusedOf (held sheet) → s ≡ refusedOf (held sheet) → r ≡ s
+refused-wide-one sheet r s = one
+
+pub heard-wide-one : (sheet : WideSheet) (r s : ℕ) → r ≡ heardOf Corrected (held sheet) → s ≡ heardOf Corrected (held sheet) → r ≡ s
+heard-wide-one sheet r s = one
+
+pub full-wide-one : (sheet : WideSheet) (r s : Bool) → r ≡ fullOf Corrected (held sheet) → s ≡ fullOf Corrected (held sheet) → r ≡ s
+full-wide-one sheet r s = one
 
 pub next-record-one : (rest : List ℕ) (r s : Cut) → r ≡ cutOf rest → s ≡ cutOf rest → r ≡ s
 next-record-one rest r s = one
+
+pub total-one : (tally : Tally) (r s : ℕ) → r ≡ totalOf tally → s ≡ totalOf tally → r ≡ s
+total-one tally r s = one

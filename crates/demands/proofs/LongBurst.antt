@@ -3,6 +3,7 @@
 use mathlib.Core.Path.{_≡_, refl}
 use mathlib.Core.List.{[], flatMap}
 use lib.Count.{onesIn}
+use Rattle.base.specs.declared.Edition.the-variants.{Flown}
 use Rattle.base.specs.Checks.{refusal}
 use Rattle.base.specs.Lists.{tabulate, sumTo, lowest}
 use Rattle.word.specs.Words.{multipleOf, encodeOf, distance}
@@ -19,6 +20,6 @@ use Rattle.frame.specs.Frames.{frame, frameOf}
 use Rattle.listing.specs.Listing.{listedRules}
 use Rattle.demands.specs.Zeros.{sentZeros, burstZeros}
 
-pub burst-of-43 : (flipsBetween (burstZeros 43) sentZeros ≡ 43) × (flipsInWord (burstZeros 43) sentZeros 0 ≡ 4) × (frameOf (frame listedRules (burstZeros 43) []) ≡ Refused (refusal 3 0))
+pub burst-of-43 : (flipsBetween (burstZeros 43) sentZeros ≡ 43) × (flipsInWord (burstZeros 43) sentZeros 0 ≡ 4) × (frameOf (frame (listedRules Flown) (burstZeros 43) []) ≡ Refused (refusal 3 0))
 unfolding sentZeros burstZeros tabulate sumTo lowest multipleOf encodeOf distance onesIn nearest repairOf crcStep crc13Of message nineBytes crc5Over countedFlown crc5Of wordAt wordsOf airBit airOf firstNoBit firstBeyond flipsBetween flipsInWord dataAt codedOf bitsFor airFor frameOf flatMap
 burst-of-43 = (refl, refl, refl)

@@ -30,7 +30,7 @@ marked = (
               (λ n. bit-travels n 0 (lit< tt)),
               (
                 (λ n. bit-travels n 69 (lit< tt)),
-                (refl, (refl, (refl, (refl, (refl, (refl, (refl, tt))))))),
+                (refl, (refl, (refl, (refl, (refl, (refl, (refl, (refl, (refl, tt))))))))),
               ),
             ),
           ),

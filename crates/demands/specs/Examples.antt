@@ -4,6 +4,8 @@ use mathlib.Core.Path.{_≡_}
 use mathlib.Core.List.{List, [], _∷_}
 use Prim.Native.Nat.{ℕ, _^_}
 use lib.ListN.{getD}
+use Rattle.base.specs.declared.Edition.{Edition}
+use Rattle.base.specs.declared.Edition.the-variants.{Flown, Corrected}
 use Rattle.word.specs.declared.Repaired.{Repaired}
 use Rattle.word.specs.declared.Repaired.the-variants.{Word, Beyond}
 use Rattle.word.specs.Repairs.{repairOf}
@@ -17,14 +19,14 @@ use Rattle.sheet.specs.Records.{missedOf}
 pub data Example : Type 0 where
   word-becomes : ℕ → Repaired → Example
   bit-travels-at : ℕ → ℕ → Example
-  crc5-of : ℕ → ℕ → Example
+  crc5-of : Edition → ℕ → ℕ → Example
   crc13-of : List ℕ → ℕ → Example
   counters-miss : ℕ → ℕ → ℕ → Example
 
 abbrev pub Holds : Example → Type 0
 Holds (word-becomes w answer) = repairOf w ≡ answer
 Holds (bit-travels-at k m) = (n : ℕ) → getD (airOf (codedOf n)) m 0 ≡ headerBit n k
-Holds (crc5-of bits crc) = crc5Of bits ≡ crc
+Holds (crc5-of edition bits crc) = crc5Of edition bits ≡ crc
 Holds (crc13-of payload crc) = crc13Of payload ≡ crc
 Holds (counters-miss last new missed) = missedOf last new ≡ missed
 
@@ -46,8 +48,11 @@ examples =
     ∷ bit-travels-at 0 196
     ∷ bit-travels-at 69 153
     -- "CRC5 of 65 zero bits is 6, and 6 again with only bit 32 set": header bit 32 is bit 37 of the 70-bit number
-    ∷ crc5-of 0 6
-    ∷ crc5-of (2 ^ 37) 6
+    ∷ crc5-of Flown 0 6
+    ∷ crc5-of Flown (2 ^ 37) 6
+    -- under the corrected edition that bit counts
+    ∷ crc5-of Corrected 0 6
+    ∷ crc5-of Corrected (2 ^ 37) 28
     -- "CRC13 of nothing is 0x1FFF, of FF is 0x1F00, of FF FF is 0x13D4"
     ∷ crc13-of [] 0x1FFF
     ∷ crc13-of (0xFF ∷ []) 0x1F00

@@ -5,6 +5,7 @@ use mathlib.Core.List.{List, []}
 use Prim.Native.Nat.{ℕ, _-_}
 use lib.Dec.{ltb}
 use lib.ListN.{getD}
+use Rattle.base.specs.declared.Edition.the-variants.{Flown}
 use Rattle.base.specs.Lists.{tabulate}
 use Rattle.air.specs.Air.{airBits}
 use Rattle.header.specs.Fields.{fieldsFrom}
@@ -12,7 +13,7 @@ use Rattle.header.specs.Writing.{airFor}
 
 -- all fields 0: what is written
 unfoldable pub sentZeros : List ℕ
-sentZeros = airFor (fieldsFrom []) []
+sentZeros = airFor Flown (fieldsFrom []) []
 
 -- its first k bits flipped
 unfoldable pub burstZeros : ℕ → List ℕ

@@ -1,4 +1,5 @@
 // Reads one frame on standard input, 210 header bytes and then the payload, and writes who sent it, or why it is refused.
+use base::Edition;
 use header::Answer;
 use libc::STDIN_FILENO;
 use libc::STDOUT_FILENO;
@@ -12,7 +13,7 @@ fn main() {
     let mut bytes = io::buffer();
     let bits = io::read_full(STDIN_FILENO, &mut air);
     let len = io::read_full(STDIN_FILENO, &mut bytes);
-    let read = frame::read_frame(header::usual(), &air[..bits], &bytes[..len]);
+    let read = frame::read_frame(header::usual(Edition::Flown), &air[..bits], &bytes[..len]);
     let answer = read.answer;
     match answer {
         Answer::Accepted { header, flips } => {

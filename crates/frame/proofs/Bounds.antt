@@ -14,7 +14,7 @@ use Rattle.air.specs.Flips.{mostFlips}
 use Rattle.header.specs.declared.Header.{Header}
 use Rattle.header.specs.declared.Answer.{Answer}
 use Rattle.header.specs.declared.Answer.the-variants.{Accepted, Refused}
-use Rattle.header.specs.Fields.{lastSource}
+use Rattle.header.specs.Fields.{lastSourceOf}
 use Rattle.header.specs.Reading.{arrived, repairedAnswer}
 use Rattle.header.specs.Patterns.{patternsOf}
 use Rattle.header.proofs.GoesOn.{not-refused}
@@ -22,7 +22,7 @@ use Rattle.frame.specs.Frames.{Frame, frameChecks, frameNumbers, frameOf
 use Rattle.frame.proofs.Rules.{answer-then-rules}
 
 module _ (f : Frame) (h : Header) (k : ℕ) (e : frameOf f ≡ Accepted h k) where
-  pub frame-source : h .«fields» .«src_id» ≤ lastSource
+  pub frame-source : h .«fields» .«src_id» ≤ lastSourceOf (f .head .rules .edition)
   frame-source = answer-then-rules f h k e .known-source
 
   -- three flips in each of fourteen words

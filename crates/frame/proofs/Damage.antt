@@ -5,6 +5,7 @@ use mathlib.Core.Path.{_≡_, refl, sym, ap, ap₂, _∙_}
 use mathlib.Core.List.{List}
 use Prim.Native.Nat.{ℕ, _≤_, _<_}
 use lib.ListN.{length, getD}
+use Rattle.base.specs.declared.Edition.{Edition}
 use Rattle.base.specs.Lists.{AreBits}
 use Rattle.base.proofs.Sums.{sum-same}
 use Rattle.word.specs.Words.{distance}
@@ -31,44 +32,54 @@ use Rattle.frame.specs.Frames.{Frame, frame, frameOf, frameRead}
 use Rattle.frame.proofs.Payloads.{frame-reads}
 
 -- a header that was written for the frame's payload is accepted with it
-pub with-payload : (f : Fields) (x : Frame) (flips : ℕ) → ReadAs (x .head) (headerFor f (x .payload)) flips → frameOf x ≡ Accepted (headerFor f (x .payload)) flips
-with-payload f x flips header = frame-reads x (headerFor f (x .payload)) flips (record { header = header; payload = record { same-length = refl; same-crc13 = refl } })
+pub with-payload : (edition : Edition) (f : Fields) (x : Frame) (flips : ℕ) → ReadAs (x .head) (headerFor edition f (x .payload)) flips → frameOf x ≡ Accepted (headerFor edition f (x .payload)) flips
+with-payload edition f x flips header = frame-reads x (headerFor edition f (x .payload)) flips (record { header = header; payload = record { same-length = refl; same-crc13 = refl } })
 
-module _ (f : Fields) (payload air : List ℕ) (bits : AreBits air) where
+module _ (edition : Edition) (f : Fields) (payload air : List ℕ) (bits : AreBits air) where
   abbrev sent : List ℕ
-  sent = airFor f payload
+  sent = airFor edition f payload
 
   abbrev words : List ℕ
-  words = codedOf (bitsFor f payload)
+  words = codedOf (bitsFor edition f payload)
 
   -- word by word, the places that differ
   distance-at : (j : ℕ) → j < wordCount → distance (getD (wordsOf air) j 0) (getD words j 0) ≡ flipsInWord air sent j
   distance-at j h =
-      ap₂ distance (words-at air j h) (ap (λ (l : List ℕ). getD l j 0) (sym (written-words f payload)) ∙ words-at sent j h)
-      ∙ word-flips air sent bits (written-are-bits f payload) j
+      ap₂ distance (words-at air j h) (ap (λ (l : List ℕ). getD l j 0) (sym (written-words edition f payload)) ∙ words-at sent j h)
+      ∙ word-flips air sent bits (written-are-bits edition f payload) j
 
   damaged-close : ((j : ℕ) → j < wordCount → flipsInWord air sent j ≤ radius) → AllClose (wordsOf air) words
-  damaged-close few = record { fourteen = coded-valid (bitsFor f payload); near = λ j h. rw (distance-at j h) (few j h) }
+  damaged-close few = record { fourteen = coded-valid (bitsFor edition f payload); near = λ j h. rw (distance-at j h) (few j h) }
 
   pub damaged-flips : distances (wordsOf air) words ≡ flipsBetween air sent
   damaged-flips = sum-same wordCount _ _ distance-at ∙ all-flips air sent
 
   -- and which they are
   damaged-patterns : differences (wordsOf air) words ≡ flipPatterns air sent
-  damaged-patterns = ap (differences (wordsOf air)) (sym (written-words f payload)) ∙ all-patterns air sent bits (written-are-bits f payload)
+  damaged-patterns = ap (differences (wordsOf air)) (sym (written-words edition f payload)) ∙ all-patterns air sent bits (written-are-bits edition f payload)
 
-  module _ (ok : Writable f payload) (long : length air ≡ airBits) (rules : Rules) (allowed : rules .limit ≤ mostFlips) where
-    -- at most three flips in each word
-    pub restored-frame : ((j : ℕ) → j < wordCount → flipsInWord air (airFor f payload) j ≤ radius) → flipsBetween air (airFor f payload) ≤ rules .limit
-        → frameRead (frame rules air payload) ≡ record { answer = Accepted (headerFor f payload) (flipsBetween air (airFor f payload)); patterns = flipPatterns air (airFor f payload) }
-    unfolding frameRead
-    restored-frame few within =
-        ap₂ beside (restored-patterns (wordsOf air) (words-lt air bits) words (damaged-close few) ∙ damaged-patterns)
-        (with-payload f (frame rules air payload) (flipsBetween air sent)
-        (rw damaged-flips at (header-restored f payload ok (signal rules air) long bits (damaged-close few) allowed (rw damaged-flips within))))
+-- read and written under one edition
+module _ (rules : Rules) (f : Fields) (payload air : List ℕ) (bits : AreBits air) (ok : Writable (rules .edition) f payload) (long : length air ≡ airBits)
+    (allowed : rules .limit ≤ mostFlips) where
+  abbrev written : List ℕ
+  written = airFor (rules .edition) f payload
 
-    -- a burst: all flips among so many neighbouring bits as the limit allows
-    pub restored-burst : (start : ℕ) → Burst (rules .limit) start air (airFor f payload)
-        → frameRead (frame rules air payload) ≡ record { answer = Accepted (headerFor f payload) (flipsBetween air (airFor f payload)); patterns = flipPatterns air (airFor f payload) }
-    restored-burst start burst =
-        restored-frame (burst-few (rules .limit) start air (airFor f payload) burst allowed) (burst-total (rules .limit) start air (airFor f payload) burst)
+  -- at most three flips in each word
+  pub restored-frame : ((j : ℕ) → j < wordCount → flipsInWord air (airFor (rules .edition) f payload) j ≤ radius) → flipsBetween air (airFor (rules .edition) f payload) ≤ rules .limit
+      → frameRead (frame rules air payload)
+      ≡ record { answer = Accepted (headerFor (rules .edition) f payload) (flipsBetween air (airFor (rules .edition) f payload)); patterns = flipPatterns air (airFor (rules .edition) f payload) }
+  unfolding frameRead
+  restored-frame few within =
+      let edition : Edition = rules .edition in
+      let valid : List ℕ = codedOf (bitsFor edition f payload) in
+      let close : AllClose (wordsOf air) valid = damaged-close edition f payload air bits few in
+      let flips : distances (wordsOf air) valid ≡ flipsBetween air written = damaged-flips edition f payload air bits in
+      ap₂ beside (restored-patterns (wordsOf air) (words-lt air bits) valid close ∙ damaged-patterns edition f payload air bits)
+      (with-payload edition f (frame rules air payload) (flipsBetween air written) (rw flips at (header-restored rules f payload ok allowed air long bits close (rw flips within))))
+
+  -- a burst: all flips among so many neighbouring bits as the limit allows
+  pub restored-burst : (start : ℕ) → Burst (rules .limit) start air (airFor (rules .edition) f payload)
+      → frameRead (frame rules air payload)
+      ≡ record { answer = Accepted (headerFor (rules .edition) f payload) (flipsBetween air (airFor (rules .edition) f payload)); patterns = flipPatterns air (airFor (rules .edition) f payload) }
+  restored-burst start burst =
+      restored-frame (burst-few (rules .limit) start air written burst allowed) (burst-total (rules .limit) start air written burst)

@@ -4,6 +4,7 @@ use mathlib.Core.Path.{_≡_, sym, ap, _∙_}
 use mathlib.Core.List.{List}
 use Prim.Native.Nat.{ℕ, _≤_}
 use lib.ListN.{replicate}
+use Rattle.base.specs.declared.Edition.{Edition}
 use Rattle.air.specs.Air.{wordCount, wordsOf}
 use Rattle.air.specs.WordRepairs.{patternsIn, flipTotal}
 use Rattle.air.specs.Closeness.{distances}
@@ -25,24 +26,31 @@ use Rattle.frame.specs.Accepting.{Accepts}
 use Rattle.frame.proofs.Rules.{answer-then-rules}
 use Rattle.frame.proofs.Damage.{with-payload, damaged-flips}
 
-module _ (f : Fields) (payload : List ℕ) (rules : Rules) where
+module _ (rules : Rules) (f : Fields) (payload : List ℕ) where
+  abbrev edition : Edition
+  edition = rules .edition
+
   abbrev sent : List ℕ
-  sent = airFor f payload
+  sent = airFor edition f payload
+
+  abbrev coded : List ℕ
+  coded = codedOf (bitsFor edition f payload)
 
   -- nothing was flipped
   none-flipped : patternsOf (signal rules sent) ≡ replicate wordCount 0
   none-flipped =
-      let coded : List ℕ = codedOf (bitsFor f payload) in
-      ap patternsIn (written-words f payload) ∙ restored-patterns coded (valid-words coded (coded-valid (bitsFor f payload))) coded (close-self coded (coded-valid (bitsFor f payload))) ∙ differences-self coded
+      let valid = coded-valid (bitsFor edition f payload) in
+      ap patternsIn (written-words edition f payload) ∙ restored-patterns coded (valid-words coded valid) coded (close-self coded valid) ∙ differences-self coded
 
-  pub written-accepted : Writable f payload → rules .limit ≤ mostFlips → Accepts (frame rules (airFor f payload) payload) (headerFor f payload) 0 (replicate wordCount 0)
+  pub written-accepted : Writable (rules .edition) f payload → rules .limit ≤ mostFlips
+      → Accepts (frame rules (airFor (rules .edition) f payload) payload) (headerFor (rules .edition) f payload) 0 (replicate wordCount 0)
   written-accepted ok allowed =
       rw none-flipped at
-      (answer-then-rules (frame rules sent payload) (headerFor f payload) 0 (with-payload f (frame rules sent payload) 0 (header-read-back f payload ok rules allowed)))
+      (answer-then-rules (frame rules sent payload) (headerFor edition f payload) 0 (with-payload edition f (frame rules sent payload) 0 (header-read-back rules f payload ok allowed)))
 
-  pub only-written : (air : List ℕ) → Accepts (frame rules air payload) (headerFor f payload) 0 (replicate wordCount 0) → air ≡ airFor f payload
+  pub only-written : (air : List ℕ) → Accepts (frame rules air payload) (headerFor (rules .edition) f payload) 0 (replicate wordCount 0) → air ≡ airFor (rules .edition) f payload
   only-written air so =
-      let words = words-only f payload (so .words) (so .close .fourteen) (so .made) in
-      let none : flipsBetween air (airFor f payload) ≡ 0 =
-      sym (damaged-flips f payload air (so .bits)) ∙ ap (distances (wordsOf air)) (sym words) ∙ distances-are (wordsOf air) (so .words) ∙ sym (ap flipTotal (so .patterned)) ∙ sym (so .counted) in
-      no-flips air (airFor f payload) (so .long) (air-for-length f payload) none
+      let words = words-only edition f payload (so .words) (so .close .fourteen) (so .made) in
+      let none : flipsBetween air sent ≡ 0 =
+      sym (damaged-flips edition f payload air (so .bits)) ∙ ap (distances (wordsOf air)) (sym words) ∙ distances-are (wordsOf air) (so .words) ∙ sym (ap flipTotal (so .patterned)) ∙ sym (so .counted) in
+      no-flips air sent (so .long) (air-for-length edition f payload) none

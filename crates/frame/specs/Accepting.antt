@@ -13,7 +13,7 @@ use Rattle.air.specs.WordRepairs.{flipTotal}
 use Rattle.air.specs.Closeness.{AllClose, differences}
 use Rattle.air.specs.Flips.{mostFlips}
 use Rattle.header.specs.declared.Header.{Header}
-use Rattle.header.specs.Fields.{lastSource, lastCoding, headerOf, bitsOfWords}
+use Rattle.header.specs.Fields.{lastSourceOf, lastCoding, headerOf, bitsOfWords}
 use Rattle.frame.specs.Frames.{Frame}
 
 pub record Accepts (f : Frame) (header : Header) (flips : ℕ) (patterns : List ℕ) : Type 0 where
@@ -26,8 +26,8 @@ pub record Accepts (f : Frame) (header : Header) (flips : ℕ) (patterns : List 
   -- the header is made of their data
   pub made : header ≡ headerOf (bitsOfWords words)
   -- the checks of the paper's table, 4 to 8, do not apply
-  pub same-crc5 : crc5Of (bitsOfWords words) ≡ header .«crc5»
-  pub known-source : header .«fields» .«src_id» ≤ lastSource
+  pub same-crc5 : crc5Of (f .head .rules .edition) (bitsOfWords words) ≡ header .«crc5»
+  pub known-source : header .«fields» .«src_id» ≤ lastSourceOf (f .head .rules .edition)
   pub known-coding : header .«fields» .«ai_type_src» ≤ lastCoding
   pub same-length : length (f .payload) ≡ header .«pdu_length»
   pub same-crc13 : crc13Of (f .payload) ≡ header .«crc13»

@@ -4,6 +4,7 @@ use mathlib.Core.List.{List}
 use Prim.Native.Nat.{ℕ}
 use Rattle.base.specs.declared.Refusal.{Refusal}
 use Rattle.base.specs.declared.Written.the-variants.{Done, Refused as NotWritten}
+use Rattle.base.specs.declared.Edition.{Edition}
 use Rattle.base.specs.Checks.{Exactly}
 use Rattle.base.proofs.Exactly.{exactly, done-apart}
 use Rattle.header.specs.declared.Fields.{Fields}
@@ -12,12 +13,12 @@ use Rattle.header.specs.Reading.{Signal, signalChecks, repairedAnswer, r
 use Rattle.header.specs.Writing.{writeChecks, writeHeaderOf}
 use Rattle.header.proofs.GoesOn.{not-refused}
 
--- 1 to 6
+-- 20, 1 to 3, 21, 4 to 6
 pub read-exactly : (s : Signal) (why : Refusal) → Exactly (readHeaderOf s) (Refused why) (signalChecks s)
 unfolding readHeaderOf
 read-exactly s why = exactly (repairedAnswer s) (Refused why) (signalChecks s) (not-refused s why)
 
 -- 13 to 15
-pub write-exactly : (f : Fields) (payload : List ℕ) (room : ℕ) (why : Refusal) → Exactly (writeHeaderOf f payload room) (NotWritten why) (writeChecks f payload room)
+pub write-exactly : (edition : Edition) (f : Fields) (payload : List ℕ) (room : ℕ) (why : Refusal) → Exactly (writeHeaderOf edition f payload room) (NotWritten why) (writeChecks edition f payload room)
 unfolding writeHeaderOf
-write-exactly f payload room why = exactly Done (NotWritten why) (writeChecks f payload room) (done-apart why)
+write-exactly edition f payload room why = exactly Done (NotWritten why) (writeChecks edition f payload room) (done-apart why)

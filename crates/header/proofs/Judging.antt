@@ -10,7 +10,7 @@ use Rattle.header.specs.declared.Header.{Header}
 use Rattle.header.specs.declared.Rules.{Rules}
 use Rattle.header.specs.declared.Answer.{Answer}
 use Rattle.header.specs.declared.Answer.the-variants.{Accepted, Refused}
-use Rattle.header.specs.Fields.{lastSource, lastCoding, headerOf}
+use Rattle.header.specs.Fields.{lastSourceOf, lastCoding, headerOf}
 use Rattle.header.specs.Reading.{crc5Differs, unknownSource, unknownCoding, judgedOf}
 
 module _ (rules : Rules) (flips n : ℕ) where
@@ -20,23 +20,23 @@ module _ (rules : Rules) (flips n : ℕ) where
   pub gives-21 : rules .limit < flips → Refused (refusal 21 flips) ≡ judgedOf rules flips n
   gives-21 above = rw (lt-ltb (rules .limit) flips above)
 
-  module _ (within : flips ≤ rules .limit) (crc : ℕ) (h : Header) (is : h ≡ headerOf n) (worked : crc ≡ crc5Of n) where
-    past-21 : given (crc5Differs n ∷ unknownSource n ∷ unknownCoding n ∷ []) ≡ judgedOf rules flips n
+  module _ (within : flips ≤ rules .limit) (crc : ℕ) (h : Header) (is : h ≡ headerOf n) (worked : crc ≡ crc5Of (rules .edition) n) where
+    past-21 : given (crc5Differs (rules .edition) n ∷ unknownSource (rules .edition) n ∷ unknownCoding n ∷ []) ≡ judgedOf rules flips n
     past-21 = rw (le-ltb (rules .limit) flips within)
 
     pub gives-4 : (crc ≡ h .«crc5» → ⊥) → Refused (refusal 4 crc) ≡ judgedOf rules flips n
     gives-4 differs = rw (← past-21, ← is, ← worked, ne-eqb crc (h .«crc5») differs)
 
-    module _ (same : crc ≡ h .«crc5») where
-      past-4 : given (unknownSource n ∷ unknownCoding n ∷ []) ≡ judgedOf rules flips n
+    module _ (same : crc ≡ h .«crc5») (last : ℕ) (bound : last ≡ lastSourceOf (rules .edition)) where
+      past-4 : given (unknownSource (rules .edition) n ∷ unknownCoding n ∷ []) ≡ judgedOf rules flips n
       past-4 = rw (← past-21, ← is, ← worked, eq-eqb crc (h .«crc5») same)
 
-      pub gives-5 : lastSource < h .«fields» .«src_id» → Refused (refusal 5 (h .«fields» .«src_id»)) ≡ judgedOf rules flips n
-      gives-5 above = rw (← past-4, ← is, lt-ltb lastSource (h .«fields» .«src_id») above)
+      pub gives-5 : last < h .«fields» .«src_id» → Refused (refusal 5 (h .«fields» .«src_id»)) ≡ judgedOf rules flips n
+      gives-5 above = rw (← past-4, ← is, ← bound, lt-ltb last (h .«fields» .«src_id») above)
 
-      module _ (known : h .«fields» .«src_id» ≤ lastSource) where
+      module _ (known : h .«fields» .«src_id» ≤ last) where
         past-5 : given (unknownCoding n ∷ []) ≡ judgedOf rules flips n
-        past-5 = rw (← past-4, ← is, le-ltb lastSource (h .«fields» .«src_id») known)
+        past-5 = rw (← past-4, ← is, ← bound, le-ltb last (h .«fields» .«src_id») known)
 
         pub gives-6 : lastCoding < h .«fields» .«ai_type_src» → Refused (refusal 6 (h .«fields» .«ai_type_src»)) ≡ judgedOf rules flips n
         gives-6 above = rw (← past-5, ← is, lt-ltb lastCoding (h .«fields» .«ai_type_src») above)

@@ -11,6 +11,7 @@ pub mod Refusing
 pub mod Places
 pub mod Carried
 pub mod RoundTrip
+pub mod OtherEdition
 pub mod WrittenAir
 pub mod GoesOn
 pub mod Given

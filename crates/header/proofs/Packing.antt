@@ -9,6 +9,9 @@ use lib.Dec.{ltb, ltb→lt}
 use lib.ListN.{length, getD, take, drop}
 use mir.Syntax.{w64}
 use mir.Val.{Fits}
+use mathlib.Core.Bool.{Bool, not}
+use Rattle.base.specs.declared.Edition.{Edition}
+use Rattle.base.specs.declared.Edition.the-variants.{Flown, Corrected}
 use Rattle.base.specs.Lists.{lowest}
 use Rattle.base.specs.Parts.{joined, InWidths, none, part}
 use Rattle.base.proofs.Lowest.{every-below}
@@ -18,26 +21,33 @@ use Rattle.crc.specs.Crc5.{crc5Of}
 use Rattle.crc.proofs.Width.{crc13-lt, crc5-lt}
 use Rattle.header.specs.declared.Fields.{Fields}
 use Rattle.header.specs.Fields.{widths, fieldCount, valuesOf}
-use Rattle.header.specs.Writing.{mostOf, bitsWith, bitsFor}
+use Rattle.header.specs.Writing.{mostOf, firstOver, bitsWith, bitsFor}
 use Rattle.header.proofs.Ranges.{in-range}
-use Rattle.header.proofs.Passed.{Writable}
+use Rattle.air.specs.Air.{payloadLimit}
 use Rattle.crc.specs.Halves.{headerBits, hiWidth, loWidth}
 use Rattle.header.specs.HalfWidths.{lowerWidths, upperFields, upperWidths}
 
 -- a bound is within its field's width
-most-lt : (k : ℕ) → k < fieldCount → mostOf k < 2 ^ getD (take fieldCount widths) k 0
+abbrev inWidth : Edition → ℕ → Bool
+inWidth edition k = ltb (mostOf edition k) (2 ^ getD (take fieldCount widths) k 0)
+
+all-in-width : (edition : Edition) → lowest fieldCount (λ k. not (inWidth edition k)) ≡ fieldCount
 unfolding lowest
-most-lt k h = ltb→lt (mostOf k) (2 ^ getD (take fieldCount widths) k 0) (every-below fieldCount (λ k. ltb (mostOf k) (2 ^ getD (take fieldCount widths) k 0)) refl k h)
+all-in-width Flown = refl
+all-in-width Corrected = refl
+
+most-lt : (edition : Edition) (k : ℕ) → k < fieldCount → mostOf edition k < 2 ^ getD (take fieldCount widths) k 0
+most-lt edition k h = ltb→lt (mostOf edition k) (2 ^ getD (take fieldCount widths) k 0) (every-below fieldCount (inWidth edition) (all-in-width edition) k h)
 
 abbrev written : List ℕ → ℕ → List ℕ
 written payload crc5 = length payload ∷ crc13Of payload ∷ crc5 ∷ []
 
-module _ (f : Fields) (payload : List ℕ) (ok : Writable f payload) where
+module _ (edition : Edition) (f : Fields) (payload : List ℕ) (ranges : fieldCount ≤ firstOver edition (valuesOf f)) (short : length payload ≤ payloadLimit) where
   pub values-within : (crc5 : ℕ) → crc5 < 32 → InWidths widths (valuesOf f ++ written payload crc5)
   values-within crc5 h =
       within-append
-      (within-all (take fieldCount widths) (valuesOf f) refl (λ k below. lt-of-le-of-lt (in-range (valuesOf f) (ok .ranges) k below) (most-lt k below)))
-      (part {w = 10} (omega (arith, ok .short)) (part {w = 13} (crc13-lt payload) (part {w = 5} h none)))
+      (within-all (take fieldCount widths) (valuesOf f) refl (λ k below. lt-of-le-of-lt (in-range edition (valuesOf f) ranges k below) (most-lt edition k below)))
+      (part {w = 10} (omega (arith, short)) (part {w = 13} (crc13-lt payload) (part {w = 5} h none)))
 
   module _ (crc13 hi lo : ℕ) (worked13 : crc13 ≡ crc13Of payload) (above : hi ≡ joined upperWidths (take upperFields (valuesOf f)))
       (lower : lo ≡ joined lowerWidths (drop upperFields (valuesOf f) ++ (length payload ∷ crc13 ∷ 0 ∷ []))) where
@@ -66,9 +76,9 @@ module _ (f : Fields) (payload : List ℕ) (ok : Writable f payload) where
         ∙ join-above (joined upperWidths (take upperFields (valuesOf f))) (lower-within crc5 h)
         ∙ ap₂ headerBits (sym above) (with-crc5 crc5)
 
-    module _ (crc5 : ℕ) (worked : crc5 ≡ crc5Of (headerBits hi lo)) where
+    module _ (crc5 : ℕ) (worked : crc5 ≡ crc5Of edition (headerBits hi lo)) where
       crc5-small : crc5 < 32
-      crc5-small = rw worked (crc5-lt (headerBits hi lo))
+      crc5-small = rw worked (crc5-lt edition (headerBits hi lo))
 
       pub whole-lt : lo + crc5 < 2 ^ loWidth
       whole-lt = rw (← with-crc5 crc5) (join-lt (lower-within crc5 crc5-small))
@@ -76,8 +86,8 @@ module _ (f : Fields) (payload : List ℕ) (ok : Writable f payload) where
       pub whole-fits : Fits w64 (lo + crc5)
       whole-fits = record { fits = omega (arith, whole-lt) }
 
-      pub packed : headerBits hi (lo + crc5) ≡ bitsFor f payload
+      pub packed : headerBits hi (lo + crc5) ≡ bitsFor edition f payload
       unfolding bitsFor
       packed =
           let first : bitsWith f payload 0 ≡ headerBits hi lo = two-numbers 0 (omega arith) ∙ ap (headerBits hi) (add-zero lo) in
-          sym (ap (λ (n : ℕ). bitsWith f payload (crc5Of n)) first ∙ ap (bitsWith f payload) (sym worked) ∙ two-numbers crc5 crc5-small)
+          sym (ap (λ (n : ℕ). bitsWith f payload (crc5Of edition n)) first ∙ ap (bitsWith f payload) (sym worked) ∙ two-numbers crc5 crc5-small)

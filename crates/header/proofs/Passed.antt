@@ -6,6 +6,7 @@ use native.Mathlib.Omega.{arith}
 use mathlib.Core.List.{List}
 use lib.ListN.{length}
 use borrow.Author.Tests.{le-ltb, ltb-false}
+use Rattle.base.specs.declared.Edition.{Edition}
 use Rattle.base.specs.Lists.{AreBits}
 use Rattle.base.proofs.First.{NoneApplies}
 use Rattle.base.proofs.Tests.{differs-not, not-differs}
@@ -17,7 +18,7 @@ use Rattle.air.proofs.Bits.{are-bits, no-bit-none, no-bit-le}
 use Rattle.air.proofs.Answers.{beyond-le}
 use Rattle.header.specs.declared.Fields.{Fields}
 use Rattle.header.specs.declared.Rules.{Rules}
-use Rattle.header.specs.Fields.{fieldCount, valuesOf, lastSource, lastCoding, headerOf}
+use Rattle.header.specs.Fields.{fieldCount, valuesOf, lastSourceOf, lastCoding, headerOf}
 use Rattle.header.specs.Reading.{Signal, arrived, airChecks, headerChecks}
 use Rattle.header.specs.Writing.{firstOver, writeChecks}
 
@@ -54,16 +55,16 @@ module _ (s : Signal) where
 -- 21, 4 to 6
 pub record HeaderPassed (rules : Rules) (flips n : ℕ) : Type 0 where
   pub within : flips ≤ rules .limit
-  pub same-crc5 : crc5Of n ≡ headerOf n .«crc5»
-  pub known-source : headerOf n .«fields» .«src_id» ≤ lastSource
+  pub same-crc5 : crc5Of (rules .edition) n ≡ headerOf n .«crc5»
+  pub known-source : headerOf n .«fields» .«src_id» ≤ lastSourceOf (rules .edition)
   pub known-coding : headerOf n .«fields» .«ai_type_src» ≤ lastCoding
 
 module _ (rules : Rules) (flips n : ℕ) where
   pub header-passed : NoneApplies (headerChecks rules flips n) → HeaderPassed rules flips n
   header-passed none = record {
     within = ltb-false (rules .limit) flips (none .0);
-    same-crc5 = not-differs (crc5Of n) (headerOf n .«crc5») (none .1 .0);
-    known-source = ltb-false lastSource (headerOf n .«fields» .«src_id») (none .1 .1 .0);
+    same-crc5 = not-differs (crc5Of (rules .edition) n) (headerOf n .«crc5») (none .1 .0);
+    known-source = ltb-false (lastSourceOf (rules .edition)) (headerOf n .«fields» .«src_id») (none .1 .1 .0);
     known-coding = ltb-false lastCoding (headerOf n .«fields» .«ai_type_src») (none .1 .1 .1 .0);
   }
 
@@ -71,21 +72,21 @@ module _ (rules : Rules) (flips n : ℕ) where
   header-passes so = (
     le-ltb (rules .limit) flips (so .within),
     (
-      differs-not (crc5Of n) (headerOf n .«crc5») (so .same-crc5),
+      differs-not (crc5Of (rules .edition) n) (headerOf n .«crc5») (so .same-crc5),
       (
-        le-ltb lastSource (headerOf n .«fields» .«src_id») (so .known-source),
+        le-ltb (lastSourceOf (rules .edition)) (headerOf n .«fields» .«src_id») (so .known-source),
         (le-ltb lastCoding (headerOf n .«fields» .«ai_type_src») (so .known-coding), tt),
       ),
     ),
   )
 
 -- 14 and 15: what the fields and the payload have to be for a header to be written
-pub record Writable (f : Fields) (payload : List ℕ) : Type 0 where
-  pub ranges : fieldCount ≤ firstOver (valuesOf f)
+pub record Writable (edition : Edition) (f : Fields) (payload : List ℕ) : Type 0 where
+  pub ranges : fieldCount ≤ firstOver edition (valuesOf f)
   pub short : length payload ≤ payloadLimit
 
-pub write-passed : (f : Fields) (payload : List ℕ) (room : ℕ) → NoneApplies (writeChecks f payload room) → Writable f payload
-write-passed f payload room none = record {
-  ranges = ltb-false (firstOver (valuesOf f)) fieldCount (none .1 .0);
+pub write-passed : (edition : Edition) (f : Fields) (payload : List ℕ) (room : ℕ) → NoneApplies (writeChecks edition f payload room) → Writable edition f payload
+write-passed edition f payload room none = record {
+  ranges = ltb-false (firstOver edition (valuesOf f)) fieldCount (none .1 .0);
   short = ltb-false payloadLimit (length payload) (none .1 .1 .0);
 }

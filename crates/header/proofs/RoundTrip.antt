@@ -2,15 +2,16 @@
 -- Assumes nothing.
 use mathlib.Core.Path.{_≡_, sym, ap, ap₂, _∙_, subst}
 use mathlib.Core.List.{List, [], append-nil}
-use Prim.Native.Nat.{ℕ, _≤_}
+use Prim.Native.Nat.{ℕ, _^_, _≤_, _<_}
 use native.Mathlib.Omega.{arith}
 use lib.Dec.{lit<}
 use lib.Pow.{high}
 use lib.ListN.{length}
 use borrow.Author.Tests.{eq-eqb, le-ltb}
+use Rattle.base.specs.declared.Edition.{Edition}
 use Rattle.base.specs.Lists.{AreBits}
 use Rattle.base.proofs.Joined.{parts-join, join-lt}
-use Rattle.crc.specs.Crc5.{crc5Of}
+use Rattle.crc.specs.Crc5.{headerWidth, crc5Of}
 use Rattle.crc.proofs.Width.{crc5-lt}
 use Rattle.crc.proofs.Unseen.{carried-same}
 use Rattle.air.specs.Air.{airBits, wordsOf, airOf}
@@ -58,64 +59,70 @@ module _ (s : Signal) (valid : List ℕ) (long : length (s .air) ≡ airBits) (b
         (rw (restored-bits, restored-flips (arrived s) (words-lt (s .air) bits) valid close) (header-passes (s .rules) (distances (arrived s) valid) (bitsOfWords valid) passed));
   }
 
-pub air-for-length : (f : Fields) (payload : List ℕ) → length (airFor f payload) ≡ airBits
+pub air-for-length : (edition : Edition) (f : Fields) (payload : List ℕ) → length (airFor edition f payload) ≡ airBits
 unfolding airFor
-air-for-length f payload = air-length (codedOf (bitsFor f payload))
+air-for-length edition f payload = air-length (codedOf (bitsFor edition f payload))
 
 -- the words of what is written are those that carry its bits
-pub written-words : (f : Fields) (payload : List ℕ) → wordsOf (airFor f payload) ≡ codedOf (bitsFor f payload)
+pub written-words : (edition : Edition) (f : Fields) (payload : List ℕ) → wordsOf (airFor edition f payload) ≡ codedOf (bitsFor edition f payload)
 unfolding airFor
-written-words f payload =
-    let coded : List ℕ = codedOf (bitsFor f payload) in
-    let ok : ValidWords coded = coded-valid (bitsFor f payload) in
+written-words edition f payload =
+    let coded : List ℕ = codedOf (bitsFor edition f payload) in
+    let ok : ValidWords coded = coded-valid (bitsFor edition f payload) in
     ap wordsOf (sym (append-nil (airOf coded))) ∙ words-back coded [] (ok .long) (valid-words coded ok)
 
-pub written-are-bits : (f : Fields) (payload : List ℕ) → AreBits (airFor f payload)
+pub written-are-bits : (edition : Edition) (f : Fields) (payload : List ℕ) → AreBits (airFor edition f payload)
 unfolding airFor
-written-are-bits f payload = air-bits (codedOf (bitsFor f payload))
+written-are-bits edition f payload = air-bits (codedOf (bitsFor edition f payload))
 
-module _ (f : Fields) (payload : List ℕ) (ok : Writable f payload) where
+module _ (edition : Edition) (f : Fields) (payload : List ℕ) (ok : Writable edition f payload) where
   abbrev crc5 : ℕ
-  crc5 = crc5Of (bitsWith f payload 0)
+  crc5 = crc5Of edition (bitsWith f payload 0)
 
   -- its fields are those that were written
-  pub written-header : headerOf (bitsFor f payload) ≡ headerFor f payload
+  pub written-header : headerOf (bitsFor edition f payload) ≡ headerFor edition f payload
   unfolding headerOf bitsFor
-  written-header = ap headerFrom (parts-join 0 (values-within f payload ok crc5 (crc5-lt (bitsWith f payload 0))))
+  written-header = ap headerFrom (parts-join 0 (values-within edition f payload (ok .ranges) (ok .short) crc5 (crc5-lt edition (bitsWith f payload 0))))
 
   -- CRC5 does not look at itself
-  pub written-crc5 : crc5Of (bitsFor f payload) ≡ crc5
+  pub written-crc5 : crc5Of edition (bitsFor edition f payload) ≡ crc5
   unfolding bitsFor
-  written-crc5 = carried-same (bitsFor f payload) (bitsWith f payload 0) (high _ 5 (crc5-lt (bitsWith f payload 0)) ∙ sym (high _ 5 (lit< tt)))
+  written-crc5 = carried-same edition (bitsFor edition f payload) (bitsWith f payload 0) (high _ 5 (crc5-lt edition (bitsWith f payload 0)) ∙ sym (high _ 5 (lit< tt)))
 
-  pub written-bits : bitsOfWords (codedOf (bitsFor f payload)) ≡ bitsFor f payload
+  pub written-lt : bitsFor edition f payload < 2 ^ headerWidth
   unfolding bitsFor
-  written-bits = coded-bits (bitsFor f payload) (join-lt (values-within f payload ok crc5 (crc5-lt (bitsWith f payload 0))))
+  written-lt = join-lt (values-within edition f payload (ok .ranges) (ok .short) crc5 (crc5-lt edition (bitsWith f payload 0)))
+
+  pub written-bits : bitsOfWords (codedOf (bitsFor edition f payload)) ≡ bitsFor edition f payload
+  written-bits = coded-bits (bitsFor edition f payload) written-lt
 
   -- and no check stands against them
-  written-passed : (rules : Rules) (flips : ℕ) → flips ≤ rules .limit → HeaderPassed rules flips (bitsFor f payload)
-  written-passed rules flips within = record {
+  written-passed : (limit flips : ℕ) → flips ≤ limit → HeaderPassed (record { edition = edition; limit = limit }) flips (bitsFor edition f payload)
+  written-passed limit flips within = record {
     within = within;
     same-crc5 = written-crc5 ∙ ap (λ (h : Header). h .«crc5») (sym written-header);
-    known-source = rw written-header (in-range (valuesOf f) (ok .ranges) 0 (lit< tt));
-    known-coding = rw written-header (in-range (valuesOf f) (ok .ranges) 5 (lit< tt));
+    known-source = rw written-header (in-range edition (valuesOf f) (ok .ranges) 0 (lit< tt));
+    known-coding = rw written-header (in-range edition (valuesOf f) (ok .ranges) 5 (lit< tt));
   }
 
-  -- THE HEADER IS RESTORED
-  pub header-restored : (s : Signal) → length (s .air) ≡ airBits → AreBits (s .air) → AllClose (arrived s) (codedOf (bitsFor f payload))
-      → s .rules .limit ≤ mostFlips → distances (arrived s) (codedOf (bitsFor f payload)) ≤ s .rules .limit
-      → ReadAs s (headerFor f payload) (distances (arrived s) (codedOf (bitsFor f payload)))
-  header-restored s long bits close allowed within =
-      (rw (written-bits, written-header) at (restored s (codedOf (bitsFor f payload)) long bits close allowed))
-      (written-passed (s .rules) (distances (arrived s) (codedOf (bitsFor f payload))) within)
+-- THE HEADER IS RESTORED, read and written under one edition
+module _ (rules : Rules) (f : Fields) (payload : List ℕ) (ok : Writable (rules .edition) f payload) (allowed : rules .limit ≤ mostFlips) where
+  abbrev coded : List ℕ
+  coded = codedOf (bitsFor (rules .edition) f payload)
+
+  pub header-restored : (air : List ℕ) → length air ≡ airBits → AreBits air → AllClose (wordsOf air) (codedOf (bitsFor (rules .edition) f payload))
+      → distances (wordsOf air) (codedOf (bitsFor (rules .edition) f payload)) ≤ rules .limit
+      → ReadAs (signal rules air) (headerFor (rules .edition) f payload) (distances (wordsOf air) (codedOf (bitsFor (rules .edition) f payload)))
+  header-restored air long bits close within =
+      (rw (written-bits (rules .edition) f payload ok, written-header (rules .edition) f payload ok) at (restored (signal rules air) coded long bits close allowed))
+      (written-passed (rules .edition) f payload ok (rules .limit) (distances (wordsOf air) coded) within)
 
   -- with nothing flipped
-  pub header-read-back : (rules : Rules) → rules .limit ≤ mostFlips → ReadAs (signal rules (airFor f payload)) (headerFor f payload) 0
-  header-read-back rules allowed =
-      let sent : List ℕ = airFor f payload in
-      let coded : List ℕ = codedOf (bitsFor f payload) in
-      let back : wordsOf sent ≡ coded = written-words f payload in
+  pub header-read-back : ReadAs (signal rules (airFor (rules .edition) f payload)) (headerFor (rules .edition) f payload) 0
+  header-read-back =
+      let sent : List ℕ = airFor (rules .edition) f payload in
+      let back : wordsOf sent ≡ coded = written-words (rules .edition) f payload in
       let none : distances (wordsOf sent) coded ≡ 0 = ap (λ (l : List ℕ). distances l coded) back ∙ distances-self coded in
       rw none at
-      (header-restored (signal rules sent) (air-for-length f payload) (written-are-bits f payload) (rw back (close-self coded (coded-valid (bitsFor f payload)))) allowed
-      (omega (arith, none)))
+      (header-restored sent (air-for-length (rules .edition) f payload) (written-are-bits (rules .edition) f payload)
+      (rw back (close-self coded (coded-valid (bitsFor (rules .edition) f payload)))) (omega (arith, none)))

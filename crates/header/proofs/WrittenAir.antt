@@ -6,6 +6,7 @@ use Prim.Native.Nat.{ℕ, _≤_}
 use lib.ListN.{length, take, drop}
 use lib.Seq.{take-at}
 use borrow.Author.Needs.{needs}
+use Rattle.base.specs.declared.Edition.{Edition}
 use Rattle.base.specs.Parts.{joined}
 use Rattle.base.proofs.First.{first-passes}
 use Rattle.base.proofs.Exactly.{not-done}
@@ -22,20 +23,20 @@ use Rattle.header.proofs.Passed.{Writable, write-passed}
 use Rattle.header.proofs.RoundTrip.{air-for-length}
 
 -- a header that was written: nothing stood against it, and its bits stand in front
-pub record Sent (f : Fields) (payload after : List ℕ) : Type 0 where
-  pub writable : Writable f payload
-  pub air : take airBits after ≡ airFor f payload
+pub record Sent (edition : Edition) (f : Fields) (payload after : List ℕ) : Type 0 where
+  pub writable : Writable edition f payload
+  pub air : take airBits after ≡ airFor edition f payload
 
-pub sent : (f : Fields) (payload before after : List ℕ) → HeaderWritten f payload before Done after → Sent f payload after
+pub sent : (edition : Edition) (f : Fields) (payload before after : List ℕ) → HeaderWritten edition f payload before Done after → Sent edition f payload after
 unfolding writeHeaderOf
-sent f payload before after so = record {
-  writable = write-passed f payload (length before) (first-passes Done Done (writeChecks f payload (length before)) (search (needs, not-done)) (sym (so .answered)) .1);
-  air = rw (so .bytes) (take-at (airFor f payload) (drop airBits before) airBits (air-for-length f payload));
+sent edition f payload before after so = record {
+  writable = write-passed edition f payload (length before) (first-passes Done Done (writeChecks edition f payload (length before)) (search (needs, not-done)) (sym (so .answered)) .1);
+  air = rw (so .bytes) (take-at (airFor edition f payload) (drop airBits before) airBits (air-for-length edition f payload));
 }
 
 -- valid words that carry the header of some fields and a payload are those that are written for them
-pub words-only : (f : Fields) (payload words : List ℕ) → ValidWords words → headerFor f payload ≡ headerOf (bitsOfWords words) → words ≡ codedOf (bitsFor f payload)
+pub words-only : (edition : Edition) (f : Fields) (payload words : List ℕ) → ValidWords words → headerFor edition f payload ≡ headerOf (bitsOfWords words) → words ≡ codedOf (bitsFor edition f payload)
 unfolding bitsFor
-words-only f payload words ok made =
-    let same : bitsFor f payload ≡ bitsOfWords words = ap (λ (h : Header). joined widths (valuesIn h)) made ∙ header-bits (bitsOfWords words) (carried-lt words ok) in
+words-only edition f payload words ok made =
+    let same : bitsFor edition f payload ≡ bitsOfWords words = ap (λ (h : Header). joined widths (valuesIn h)) made ∙ header-bits (bitsOfWords words) (carried-lt words ok) in
     sym (coded-only words ok) ∙ ap codedOf (sym same)

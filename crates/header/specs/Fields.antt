@@ -4,6 +4,8 @@ use mathlib.Core.Path.{_≡_}
 use mathlib.Core.List.{List, [], _∷_, map}
 use Prim.Native.Nat.{ℕ, _+_, _-_, _*_, _/_, _%_, _<_}
 use lib.ListN.{length, getD, take, drop, replicate}
+use Rattle.base.specs.declared.Edition.{Edition}
+use Rattle.base.specs.declared.Edition.the-variants.{Flown, Corrected}
 use Rattle.base.specs.Lists.{tabulate}
 use Rattle.base.specs.Parts.{partsOf, joined}
 use Rattle.word.specs.Words.{dataOf, encodeOf, positions}
@@ -57,10 +59,12 @@ headerFrom l = record {
 unfoldable pub headerOf : ℕ → Header
 headerOf n = headerFrom (partsOf widths n)
 
--- "SrcId 0 to 7", and the last AiTypeSrc that is not refused
-abbrev pub lastSource : ℕ
-lastSource = 7
+-- "SrcId 0 to 7"; "under the corrected edition all 128 are allowed"
+abbrev pub lastSourceOf : Edition → ℕ
+lastSourceOf Flown = 7
+lastSourceOf Corrected = 127
 
+-- the last AiTypeSrc that is not refused
 abbrev pub lastCoding : ℕ
 lastCoding = 3
 

@@ -5,6 +5,7 @@ use mathlib.Core.List.{List, [], _∷_, _++_}
 use Prim.Native.Nat.{ℕ}
 use lib.Dec.{eqb, ltb}
 use lib.ListN.{length}
+use Rattle.base.specs.declared.Edition.{Edition}
 use Rattle.base.specs.Checks.{Check, check, first, refusal}
 use Rattle.crc.specs.Crc5.{crc5Of}
 use Rattle.air.specs.Air.{wordCount, airBits, wordsOf, firstNoBit}
@@ -13,7 +14,7 @@ use Rattle.air.specs.Flips.{mostFlips}
 use Rattle.header.specs.declared.Rules.{Rules}
 use Rattle.header.specs.declared.Answer.{Answer}
 use Rattle.header.specs.declared.Answer.the-variants.{Accepted, Refused}
-use Rattle.header.specs.Fields.{lastSource, lastCoding, headerOf, bitsOfWords}
+use Rattle.header.specs.Fields.{lastSourceOf, lastCoding, headerOf, bitsOfWords}
 
 -- what a header is read from: the air bits, and how they are to be read
 pub record Signal : Type 0 where
@@ -56,19 +57,19 @@ abbrev pub flipsAboveLimit : Rules → ℕ → Check Answer
 flipsAboveLimit rules flips = check (ltb (rules .limit) flips) (Refused (refusal 21 flips))
 
 -- 4, "CRC5 differs": CRC5 worked out
-abbrev pub crc5Differs : ℕ → Check Answer
-crc5Differs n = check (not (eqb (crc5Of n) (headerOf n .«crc5»))) (Refused (refusal 4 (crc5Of n)))
+abbrev pub crc5Differs : Edition → ℕ → Check Answer
+crc5Differs edition n = check (not (eqb (crc5Of edition n) (headerOf n .«crc5»))) (Refused (refusal 4 (crc5Of edition n)))
 
--- 5, "SrcId above 7": SrcId
-abbrev pub unknownSource : ℕ → Check Answer
-unknownSource n = check (ltb lastSource (headerOf n .«fields» .«src_id»)) (Refused (refusal 5 (headerOf n .«fields» .«src_id»)))
+-- 5, "SrcId above 7": SrcId. Under the corrected edition "check 5 isn't made": no SrcId is above 127 (`corrected-no-5`)
+abbrev pub unknownSource : Edition → ℕ → Check Answer
+unknownSource edition n = check (ltb (lastSourceOf edition) (headerOf n .«fields» .«src_id»)) (Refused (refusal 5 (headerOf n .«fields» .«src_id»)))
 
 -- 6, "AiTypeSrc above 3": AiTypeSrc
 abbrev pub unknownCoding : ℕ → Check Answer
 unknownCoding n = check (ltb lastCoding (headerOf n .«fields» .«ai_type_src»)) (Refused (refusal 6 (headerOf n .«fields» .«ai_type_src»)))
 
 abbrev pub headerChecks : Rules → ℕ → ℕ → List (Check Answer)
-headerChecks rules flips n = flipsAboveLimit rules flips ∷ crc5Differs n ∷ unknownSource n ∷ unknownCoding n ∷ []
+headerChecks rules flips n = flipsAboveLimit rules flips ∷ crc5Differs (rules .edition) n ∷ unknownSource (rules .edition) n ∷ unknownCoding n ∷ []
 
 -- what is answered of it
 abbrev pub judgedOf : Rules → ℕ → ℕ → Answer

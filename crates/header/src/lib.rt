@@ -3,18 +3,21 @@ mod reading;
 mod writing;
 
 use air::WORD_COUNT;
+use base::Edition;
 use base::Refusal;
 pub use reading::read_header;
 pub use reading::read_header_in;
 pub use writing::write_header;
 ghost use mathlib.Core.Path.{_≡_};
 ghost use Prim.Native.Nat.{_+_};
-ghost use Rattle.header.specs.Fields.{satelliteOf, radioOf};
+ghost use Rattle.header.specs.Fields.{lastSourceOf, satelliteOf, radioOf};
 ghost use Rattle.header.specs.Patterns.{beside};
 ghost use Rattle.header.specs.Rules.{usualRules};
 
-// The last SrcId and the last AiTypeSrc that are not refused.
-pub const LAST_SOURCE: u8 = 7;
+// The last SrcId that is not refused, under each edition, and the last AiTypeSrc.
+pub const LAST_FLOWN_SOURCE: u8 = 7;
+
+pub const LAST_CORRECTED_SOURCE: u8 = 127;
 
 const LAST_CODING: u8 = 3;
 
@@ -50,16 +53,30 @@ pub struct Header {
 // The flips in one header up to which it is believed where a caller names no limit.
 const USUAL_LIMIT: u32 = 28;
 
-// How a header is read: the most flips that are taken, 0 to 42.
+// How a header is read: the edition, and the most flips that are taken, 0 to 42.
 pub struct Rules {
+    pub edition: Edition,
     pub limit: u32,
 }
 
-// The rules for a caller that names none.
-pub fn usual() -> Rules
-    ensures { λ r. ⌜ r ≡ usualRules ⌝ }
+// The rules for a caller that names no limit.
+pub fn usual(edition: Edition) -> Rules
+    ensures { λ r. ⌜ r ≡ usualRules edition ⌝ }
 {
-    Rules { limit: USUAL_LIMIT }
+    Rules {
+        edition,
+        limit: USUAL_LIMIT,
+    }
+}
+
+// The last SrcId that is not refused.
+fn last_source(edition: Edition) -> u8
+    ensures { λ r. ⌜ r ≡ lastSourceOf edition ⌝ }
+{
+    match edition {
+        Edition::Flown => LAST_FLOWN_SOURCE,
+        Edition::Corrected => LAST_CORRECTED_SOURCE,
+    }
 }
 
 // The repaired header and the number of flips, or the refusal: what is answered of a header alone, and of a whole frame.

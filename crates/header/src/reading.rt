@@ -3,9 +3,9 @@ use crate::Answer;
 use crate::Fields;
 use crate::Header;
 use crate::LAST_CODING;
-use crate::LAST_SOURCE;
 use crate::Read;
 use crate::Rules;
+use crate::last_source;
 use crate::with_patterns;
 use air::AIR_BITS;
 use air::MOST_FLIPS;
@@ -103,7 +103,8 @@ fn judge(rules: Rules, flips: u32, hi: u64, lo: u64) -> Answer
         });
     }
     let header = unpack(hi, lo);
-    let crc5 = crc::crc5(hi, lo);
+    let edition = rules.edition;
+    let crc5 = crc::crc5(edition, hi, lo);
     if crc5 != header.crc5 {
         return Answer::Refused(Refusal {
             number: CRC5_DIFFERS,
@@ -111,7 +112,7 @@ fn judge(rules: Rules, flips: u32, hi: u64, lo: u64) -> Answer
         });
     }
     let src_id = header.fields.src_id;
-    if LAST_SOURCE < src_id {
+    if last_source(edition) < src_id {
         return Answer::Refused(Refusal {
             number: UNKNOWN_SOURCE,
             place: src_id as usize,

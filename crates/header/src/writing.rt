@@ -2,10 +2,12 @@
 use crate::FIELD_COUNT;
 use crate::Fields;
 use crate::LAST_CODING;
-use crate::LAST_SOURCE;
+use crate::LAST_CORRECTED_SOURCE;
+use crate::last_source;
 use air::AIR_BITS;
 use air::LONGEST_PAYLOAD;
 use air::WORD_COUNT;
+use base::Edition;
 use base::LONG_PAYLOAD;
 use base::OUT_OF_RANGE;
 use base::Refusal;
@@ -18,13 +20,13 @@ ghost use lib.ListN.{length, take, drop};
 ghost use Rattle.base.specs.Parts.{joined};
 ghost use Rattle.air.specs.Air.{wordCount, airBits, payloadLimit};
 ghost use Rattle.header.specs.Fields.{fieldCount, valuesOf, dataAt, codedOf};
-ghost use Rattle.header.specs.Writing.{firstOver, airFor, HeaderWritten};
+ghost use Rattle.header.specs.Writing.{mostOf, firstOver, airFor, HeaderWritten};
 ghost use Rattle.crc.specs.Halves.{headerBits, loWidth};
 ghost use Rattle.header.specs.HalfWidths.{lowerWidths, upperFields, upperWidths};
 
-// The most that fields 0 to 13 may be: their widths bound them, SrcId also 7 and AiTypeSrc also 3.
+// The most that fields 0 to 13 may be under the corrected edition: their widths bound them, AiTypeSrc also 3.
 const MOST: [u8; FIELD_COUNT] = [
-    LAST_SOURCE,
+    LAST_CORRECTED_SOURCE,
     127,
     15,
     15,
@@ -40,13 +42,24 @@ const MOST: [u8; FIELD_COUNT] = [
     1,
 ];
 
+// The most that field k may be. SrcId's bound is its edition's.
+fn most(edition: Edition, k: usize) -> u8
+    requires { ⌜ k < fieldCount ⌝ }
+    ensures { λ r. ⌜ r ≡ mostOf edition k ⌝ }
+{
+    if k == 0 {
+        return last_source(edition);
+    }
+    MOST[k]
+}
+
 // The lowest of fourteen values above its bound, or 14.
-fn first_above(values: [u8; FIELD_COUNT]) -> usize
-    ensures { λ r. ⌜ r ≡ firstOver values ⌝ }
+fn first_above(edition: Edition, values: [u8; FIELD_COUNT]) -> usize
+    ensures { λ r. ⌜ r ≡ firstOver edition values ⌝ }
 {
     let mut k = 0;
     while k < FIELD_COUNT {
-        if MOST[k] < values[k] {
+        if most(edition, k) < values[k] {
             return k;
         }
         k += 1;
@@ -77,10 +90,10 @@ fn values(f: Fields) -> [u8; FIELD_COUNT]
 }
 
 // The lowest field out of range, or 14.
-fn first_over(f: Fields) -> usize
-    ensures { λ r. ⌜ r ≡ firstOver (valuesOf f) ⌝ }
+fn first_over(edition: Edition, f: Fields) -> usize
+    ensures { λ r. ⌜ r ≡ firstOver edition (valuesOf f) ⌝ }
 {
-    first_above(values(f))
+    first_above(edition, values(f))
 }
 
 // Header bits 0 to 29. (The sums are made of numbers: a struct's fields are handed over.)
@@ -180,25 +193,25 @@ fn coded(hi: u64, lo: u64) -> [u16; WORD_COUNT]
 }
 
 // The header of a payload onto the air, where nothing stands against it.
-fn put_header(fields: Fields, payload: &[u8], out: &mut [u8])
+fn put_header(edition: Edition, fields: Fields, payload: &[u8], out: &mut [u8])
     requires { ⌜ airBits ≤ length (now out) ⌝ }
-    requires { ⌜ fieldCount ≤ firstOver (valuesOf fields) ⌝ }
+    requires { ⌜ fieldCount ≤ firstOver edition (valuesOf fields) ⌝ }
     requires { ⌜ length (now payload) ≤ payloadLimit ⌝ }
-    ensures { λ r. ⌜ now (out .exit) ≡ airFor fields (now (payload .entry)) ++ drop airBits (now (out .entry)) ⌝ }
+    ensures { λ r. ⌜ now (out .exit) ≡ airFor edition fields (now (payload .entry)) ++ drop airBits (now (out .entry)) ⌝ }
 {
     let pdu_length = payload.len() as u16;
     let crc13 = crc::crc13(payload);
     let hi = upper(fields);
     let lo = lower(fields, pdu_length, crc13);
-    let crc5 = crc::crc5(hi, lo) as u64;
+    let crc5 = crc::crc5(edition, hi, lo) as u64;
     let words = coded(hi, lo + crc5);
     air::send(words, out);
 }
 
 // The writer: the header of a payload as 210 bytes, each 0 or 1, at the start of the output; or the first refusal of
 // 13 to 15, and then no byte is changed. PduLength and both checksums are worked out.
-pub fn write_header(fields: Fields, payload: &[u8], out: &mut [u8]) -> Written
-    ensures { λ r. ⌜ HeaderWritten fields (now (payload .entry)) (now (out .entry)) r (now (out .exit)) ⌝ }
+pub fn write_header(edition: Edition, fields: Fields, payload: &[u8], out: &mut [u8]) -> Written
+    ensures { λ r. ⌜ HeaderWritten edition fields (now (payload .entry)) (now (out .entry)) r (now (out .exit)) ⌝ }
 {
     let room = out.len();
     if room < AIR_BITS {
@@ -207,7 +220,7 @@ pub fn write_header(fields: Fields, payload: &[u8], out: &mut [u8]) -> Written
             place: room,
         });
     }
-    let over = first_over(fields);
+    let over = first_over(edition, fields);
     if over < FIELD_COUNT {
         return Written::Refused(Refusal {
             number: OUT_OF_RANGE,
@@ -221,6 +234,6 @@ pub fn write_header(fields: Fields, payload: &[u8], out: &mut [u8]) -> Written
             place: size,
         });
     }
-    put_header(fields, payload, out);
+    put_header(edition, fields, payload, out);
     Written::Done
 }

@@ -2,19 +2,20 @@
 -- Assumes nothing.
 use mathlib.Core.Path.{_≡_}
 use mathlib.Core.Bool.{Bool, true, false}
-use mathlib.Core.List.{List, [], _∷_, _++_, append-assoc}
+use mathlib.Core.List.{List, [], _∷_, _++_}
 use Prim.Native.Nat.{ℕ}
 use Rattle.base.specs.declared.Refusal.{Refusal}
+use Rattle.base.specs.declared.Edition.{Edition}
+use Rattle.base.specs.declared.Edition.the-variants.{Flown, Corrected}
 use Rattle.text.specs.Text.{ascii, decimalOf, Put}
 use Rattle.text.proofs.Laid.{put-then, put-three}
 use Rattle.header.specs.declared.Header.{Header}
 use Rattle.air.specs.WordRepairs.{worstOf}
 use Rattle.header.specs.declared.Read.{Read}
-use Rattle.header.specs.declared.Answer.{Answer}
 use Rattle.header.specs.declared.Answer.the-variants.{Accepted, Refused}
 use Rattle.header.specs.Fields.{radioOf}
-use Rattle.sheet.specs.declared.Sheet.{Sheet}
-use Rattle.sheet.specs.Sheets.{acceptedOf, refusedOf, heardOf}
+use Rattle.lines.specs.declared.Tally.{Tally}
+use Rattle.lines.specs.Tallies.{totalOf}
 use Rattle.lines.specs.Lines.{fieldOf, title, letterOf, speakerOf, acceptedLine, refusedLine, lineOf, lastLine, cutLine, closingOf, openingOf, damageOf}
 
 module _ {l m : List ℕ} {at next : ℕ} where
@@ -24,35 +25,43 @@ module _ {l m : List ℕ} {at next : ℕ} where
   put-title put = put
 
   -- the line of an accepted record, and of a refused one
-  pub line-accepted : (k bytes : ℕ) (r : Read) (h : Header) (flips worst : ℕ) → r .answer ≡ Accepted h flips → worst ≡ worstOf (r .patterns)
-      → Put l at (acceptedLine k (h .«fields» .«src_id») (h .«fields» .«fr_cnt_tx») flips worst bytes) m next → Put l at (lineOf k bytes r) m next
-  line-accepted k bytes r h flips worst e found put = rw (e, ← found) put
+  pub line-accepted : (edition : Edition) (k bytes : ℕ) (r : Read) (h : Header) (flips worst : ℕ) → r .answer ≡ Accepted h flips → worst ≡ worstOf (r .patterns)
+      → Put l at (acceptedLine edition k (h .«fields» .«src_id») (h .«fields» .«fr_cnt_tx») flips worst bytes) m next → Put l at (lineOf edition k bytes r) m next
+  line-accepted edition k bytes r h flips worst e found put = rw (e, ← found) put
 
-  pub line-refused : (k bytes : ℕ) (r : Read) (why : Refusal) → r .answer ≡ Refused why → Put l at (refusedLine k why) m next → Put l at (lineOf k bytes r) m next
-  line-refused k bytes r why e put = rw e put
+  pub line-refused : (edition : Edition) (k bytes : ℕ) (r : Read) (why : Refusal) → r .answer ≡ Refused why → Put l at (refusedLine k why) m next → Put l at (lineOf edition k bytes r) m next
+  line-refused edition k bytes r why e put = rw e put
 
   -- the closing without `cut`
-  pub closing-whole : (sheet : Sheet) (cut : Bool) → cut ≡ false → Put l at (lastLine sheet) m next → Put l at (closingOf sheet cut) m next
-  closing-whole sheet cut e put = rw e put
+  pub closing-whole : (tally : Tally) (cut : Bool) → cut ≡ false → Put l at (lastLine tally) m next → Put l at (closingOf tally cut) m next
+  closing-whole tally cut e put = rw e put
 
 -- and with it
-pub closing-cut : {l m n : List ℕ} {at p q : ℕ} (sheet : Sheet) (cut : Bool) → cut ≡ true
-    → Put l at (ascii "cut\n") m p → Put m p (lastLine sheet) n q → Put l at (closingOf sheet cut) n q
+pub closing-cut : {l m n : List ℕ} {at p q : ℕ} (tally : Tally) (cut : Bool) → cut ≡ true
+    → Put l at (ascii "cut\n") m p → Put m p (lastLine tally) n q → Put l at (closingOf tally cut) n q
 unfolding cutLine
-closing-cut sheet cut e first second = rw e (put-then first second)
+closing-cut tally cut e first second = rw e (put-then first second)
 
--- who spoke
-pub put-speaker : {l m n o : List ℕ} {at p q r : ℕ} (srcId letter radio : ℕ) → letter ≡ letterOf srcId → radio ≡ radioOf srcId
-    → Put l at (letter ∷ []) m p → Put m p (ascii " radio ") n q → Put n q (decimalOf radio) o r → Put l at (speakerOf srcId) o r
-put-speaker srcId letter radio is-letter is-radio first second third = rw (← is-letter, ← is-radio) (put-three first second third)
+-- who spoke, under either edition
+pub put-radio : {l m n o : List ℕ} {at p q r : ℕ} (srcId letter radio : ℕ) → letter ≡ letterOf srcId → radio ≡ radioOf srcId
+    → Put l at (letter ∷ []) m p → Put m p (ascii " radio ") n q → Put n q (decimalOf radio) o r → Put l at (speakerOf Flown srcId) o r
+unfolding speakerOf
+put-radio srcId letter radio is-letter is-radio first second third = rw (← is-letter, ← is-radio) (put-three first second third)
+
+pub put-number : {l m n : List ℕ} {at p q : ℕ} (srcId : ℕ) → Put l at (ascii "source ") m p → Put m p (decimalOf srcId) n q → Put l at (speakerOf Corrected srcId) n q
+unfolding speakerOf
+put-number srcId first second = put-then first second
+
+pub put-speaker : {l m : List ℕ} {at p : ℕ} (edition known : Edition) (srcId : ℕ) → edition ≡ known → Put l at (speakerOf known srcId) m p → Put l at (speakerOf edition srcId) m p
+put-speaker edition known srcId is put = rw is put
 
 -- the line of an accepted record
-pub put-accepted : {l m n o : List ℕ} {at p q r : ℕ} (k srcId tx flips worst bytes : ℕ) → Put l at (openingOf k srcId) m p → Put m p (ascii " tx ") n q
-    → Put n q (damageOf tx flips worst bytes) o r → Put l at (acceptedLine k srcId tx flips worst bytes) o r
-put-accepted k srcId tx flips worst bytes first second third = put-three first second third
+pub put-accepted : {l m n o : List ℕ} {at p q r : ℕ} (edition : Edition) (k srcId tx flips worst bytes : ℕ) → Put l at (openingOf edition k srcId) m p → Put m p (ascii " tx ") n q
+    → Put n q (damageOf tx flips worst bytes) o r → Put l at (acceptedLine edition k srcId tx flips worst bytes) o r
+put-accepted edition k srcId tx flips worst bytes first second third = put-three first second third
 
 -- the parts of the last line
-pub put-last : {l m n : List ℕ} {at p q : ℕ} (sheet : Sheet) (heard accepted refused : ℕ) → heard ≡ heardOf sheet → accepted ≡ acceptedOf sheet → refused ≡ refusedOf sheet
-    → Put l at (ascii "heard ") m p → Put m p (fieldOf heard " accepted " ++ fieldOf accepted " refused " ++ fieldOf refused "\n") n q → Put l at (lastLine sheet) n q
+pub put-last : {l m n : List ℕ} {at p q : ℕ} (tally : Tally) (heard : ℕ) → heard ≡ totalOf tally
+    → Put l at (ascii "heard ") m p → Put m p (fieldOf heard " accepted " ++ fieldOf (tally .accepted) " refused " ++ fieldOf (tally .refused) "\n") n q → Put l at (lastLine tally) n q
 unfolding lastLine
-put-last sheet heard accepted refused eh ea er first second = rw (← eh, ← ea, ← er) (put-then first second)
+put-last tally heard is first second = rw (← is) (put-then first second)

@@ -5,14 +5,16 @@ use mathlib.Core.List.{List, [], _∷_, _++_}
 use Prim.Native.Nat.{ℕ, _+_}
 use Prim.Native.String.{String}
 use Rattle.base.specs.declared.Refusal.{Refusal}
+use Rattle.base.specs.declared.Edition.{Edition}
+use Rattle.base.specs.declared.Edition.the-variants.{Flown, Corrected}
 use Rattle.text.specs.Text.{ascii, decimalOf}
 use Rattle.air.specs.WordRepairs.{worstOf}
 use Rattle.header.specs.declared.Read.{Read}
 use Rattle.header.specs.declared.Answer.{Answer}
 use Rattle.header.specs.declared.Answer.the-variants.{Accepted, Refused}
 use Rattle.header.specs.Fields.{satelliteOf, radioOf}
-use Rattle.sheet.specs.declared.Sheet.{Sheet}
-use Rattle.sheet.specs.Sheets.{acceptedOf, refusedOf, heardOf}
+use Rattle.lines.specs.declared.Tally.{Tally}
+use Rattle.lines.specs.Tallies.{totalOf}
 
 -- a number and what stands after it
 abbrev pub fieldOf : ℕ → String → List ℕ
@@ -26,39 +28,40 @@ title = ascii "pass sheet\n"
 abbrev pub letterOf : ℕ → ℕ
 letterOf srcId = 65 + satelliteOf srcId
 
--- `B radio 2`: who spoke
-abbrev pub speakerOf : ℕ → List ℕ
-speakerOf srcId = (letterOf srcId ∷ []) ++ ascii " radio " ++ decimalOf (radioOf srcId)
+-- who spoke: `B radio 2`; under the corrected edition "a frame is given to no S-NET satellite: the listing writes `source 97`"
+unfoldable pub speakerOf : Edition → ℕ → List ℕ
+speakerOf Flown srcId = (letterOf srcId ∷ []) ++ ascii " radio " ++ decimalOf (radioOf srcId)
+speakerOf Corrected srcId = ascii "source " ++ decimalOf srcId
 
 -- `3 accepted B radio 2 tx 5 repaired 7 worst 4 bytes 42`
-abbrev pub openingOf : ℕ → ℕ → List ℕ
-openingOf k srcId = fieldOf k " accepted " ++ speakerOf srcId
+abbrev pub openingOf : Edition → ℕ → ℕ → List ℕ
+openingOf edition k srcId = fieldOf k " accepted " ++ speakerOf edition srcId
 
 abbrev pub damageOf : ℕ → ℕ → ℕ → ℕ → List ℕ
 damageOf tx flips worst bytes = fieldOf tx " repaired " ++ fieldOf flips " worst " ++ fieldOf worst " bytes " ++ fieldOf bytes "\n"
 
-abbrev pub acceptedLine : ℕ → ℕ → ℕ → ℕ → ℕ → ℕ → List ℕ
-acceptedLine k srcId tx flips worst bytes = openingOf k srcId ++ ascii " tx " ++ damageOf tx flips worst bytes
+abbrev pub acceptedLine : Edition → ℕ → ℕ → ℕ → ℕ → ℕ → ℕ → List ℕ
+acceptedLine edition k srcId tx flips worst bytes = openingOf edition k srcId ++ ascii " tx " ++ damageOf tx flips worst bytes
 
 -- `0 refused 4 6`: "a refused one gives the refusal and its place"
 abbrev pub refusedLine : ℕ → Refusal → List ℕ
 refusedLine k why = fieldOf k " refused " ++ fieldOf (why .number) " " ++ fieldOf (why .place) "\n"
 
 -- the line of record k with so many payload bytes: "Each record's line opens with its number, from 0"
-abbrev pub lineFor : ℕ → ℕ → List ℕ → Answer → List ℕ
-lineFor k bytes patterns (Accepted h flips) = acceptedLine k (h .«fields» .«src_id») (h .«fields» .«fr_cnt_tx») flips (worstOf patterns) bytes
-lineFor k bytes patterns (Refused why) = refusedLine k why
+abbrev pub lineFor : Edition → ℕ → ℕ → List ℕ → Answer → List ℕ
+lineFor edition k bytes patterns (Accepted h flips) = acceptedLine edition k (h .«fields» .«src_id») (h .«fields» .«fr_cnt_tx») flips (worstOf patterns) bytes
+lineFor edition k bytes patterns (Refused why) = refusedLine k why
 
-abbrev pub lineOf : ℕ → ℕ → Read → List ℕ
-lineOf k bytes read = lineFor k bytes (read .patterns) (read .answer)
+abbrev pub lineOf : Edition → ℕ → ℕ → Read → List ℕ
+lineOf edition k bytes read = lineFor edition k bytes (read .patterns) (read .answer)
 
 -- `heard 1 accepted 0 refused 1`
-unfoldable pub lastLine : Sheet → List ℕ
-lastLine sheet = ascii "heard " ++ fieldOf (heardOf sheet) " accepted " ++ fieldOf (acceptedOf sheet) " refused " ++ fieldOf (refusedOf sheet) "\n"
+unfoldable pub lastLine : Tally → List ℕ
+lastLine tally = ascii "heard " ++ fieldOf (totalOf tally) " accepted " ++ fieldOf (tally .accepted) " refused " ++ fieldOf (tally .refused) "\n"
 
 -- "prints `cut`, then the last line with the counts so far"
 unfoldable pub cutLine : List ℕ
 cutLine = ascii "cut\n"
 
-abbrev pub closingOf : Sheet → Bool → List ℕ
-closingOf sheet cut = cond cut cutLine [] ++ lastLine sheet
+abbrev pub closingOf : Tally → Bool → List ℕ
+closingOf tally cut = cond cut cutLine [] ++ lastLine tally

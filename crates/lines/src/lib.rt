@@ -1,16 +1,30 @@
 // The text of every line, put into a lent slice at a place. Each function answers the place after what it put.
+use base::Edition;
 use base::Refusal;
 use header::Answer;
 use header::Read;
-use sheet::Sheet;
 ghost use mathlib.Core.Path.{_≡_};
 ghost use mathlib.Core.List.{_++_};
 ghost use Prim.Native.Nat.{_+_, _*_, _≤_};
 ghost use lib.ListN.{length};
 ghost use Rattle.text.specs.Text.{decimalOf, mostDigits, Put};
 ghost use Rattle.header.specs.Fields.{radioOf};
+ghost use Rattle.lines.specs.Tallies.{totalOf};
 ghost use Rattle.lines.specs.Lines.{title, letterOf, speakerOf, openingOf, damageOf, acceptedLine, refusedLine, lineOf, lastLine, closingOf};
 ghost use Rattle.lines.specs.Rooms.{speakerRoom, openingRoom, damageRoom, lineRoom};
+
+// How many records were accepted so far, and how many refused.
+pub struct Tally {
+    pub accepted: u32,
+    pub refused: u32,
+}
+
+// All of them: what the last line says was heard.
+pub fn total(tally: Tally) -> u64
+    ensures { λ r. ⌜ r ≡ totalOf tally ⌝ }
+{
+    tally.accepted as u64 + tally.refused as u64
+}
 
 // Puts three numbers, each with a text after it.
 fn put_three(
@@ -46,9 +60,9 @@ fn radio(src_id: u8) -> u64
 }
 
 // Puts who spoke, as `B radio 2`.
-fn put_speaker(out: &mut [u8], at: usize, src_id: u8) -> usize
+fn put_radio(out: &mut [u8], at: usize, src_id: u8) -> usize
     requires { ⌜ at + speakerRoom ≤ length (now out) ⌝ }
-    ensures { λ r. ⌜ Put (now (out .entry)) at (speakerOf «src_id») (now (out .exit)) r ⌝ }
+    ensures { λ r. ⌜ Put (now (out .entry)) at (speakerOf Edition.Flown «src_id») (now (out .exit)) r ⌝ }
     ensures { λ r. ⌜ r ≤ at + speakerRoom ⌝ }
 {
     let name = [letter(src_id)];
@@ -57,14 +71,36 @@ fn put_speaker(out: &mut [u8], at: usize, src_id: u8) -> usize
     text::put_decimal(out, b, radio(src_id))
 }
 
+// Puts who spoke, as `source 97`.
+fn put_number(out: &mut [u8], at: usize, src_id: u8) -> usize
+    requires { ⌜ at + speakerRoom ≤ length (now out) ⌝ }
+    ensures { λ r. ⌜ Put (now (out .entry)) at (speakerOf Edition.Corrected «src_id») (now (out .exit)) r ⌝ }
+    ensures { λ r. ⌜ r ≤ at + speakerRoom ⌝ }
+{
+    let a = text::put_text(out, at, b"source ");
+    text::put_decimal(out, a, src_id as u64)
+}
+
+// Puts who spoke: under the corrected edition a frame is given to no S-NET satellite.
+fn put_speaker(out: &mut [u8], at: usize, edition: Edition, src_id: u8) -> usize
+    requires { ⌜ at + speakerRoom ≤ length (now out) ⌝ }
+    ensures { λ r. ⌜ Put (now (out .entry)) at (speakerOf edition «src_id») (now (out .exit)) r ⌝ }
+    ensures { λ r. ⌜ r ≤ at + speakerRoom ⌝ }
+{
+    match edition {
+        Edition::Flown => put_radio(out, at, src_id),
+        Edition::Corrected => put_number(out, at, src_id),
+    }
+}
+
 // Opens the line of an accepted record k.
-fn put_opening(out: &mut [u8], at: usize, k: u64, src_id: u8) -> usize
+fn put_opening(out: &mut [u8], at: usize, edition: Edition, k: u64, src_id: u8) -> usize
     requires { ⌜ at + openingRoom ≤ length (now out) ⌝ }
-    ensures { λ r. ⌜ Put (now (out .entry)) at (openingOf k «src_id») (now (out .exit)) r ⌝ }
+    ensures { λ r. ⌜ Put (now (out .entry)) at (openingOf edition k «src_id») (now (out .exit)) r ⌝ }
     ensures { λ r. ⌜ r ≤ at + openingRoom ⌝ }
 {
     let a = text::put_field(out, at, k, b" accepted ");
-    put_speaker(out, a, src_id)
+    put_speaker(out, a, edition, src_id)
 }
 
 // Puts the rest of it: the counter, the flips, the word with the most of them, and the payload's length.
@@ -89,6 +125,7 @@ fn put_damage(out: &mut [u8], at: usize, tx: u8, flips: u32, worst: usize, bytes
 fn put_accepted(
     out: &mut [u8],
     at: usize,
+    edition: Edition,
     k: u64,
     src_id: u8,
     tx: u8,
@@ -97,10 +134,10 @@ fn put_accepted(
     bytes: usize,
 ) -> usize
     requires { ⌜ at + lineRoom ≤ length (now out) ⌝ }
-    ensures { λ r. ⌜ Put (now (out .entry)) at (acceptedLine k «src_id» tx flips worst bytes) (now (out .exit)) r ⌝ }
+    ensures { λ r. ⌜ Put (now (out .entry)) at (acceptedLine edition k «src_id» tx flips worst bytes) (now (out .exit)) r ⌝ }
     ensures { λ r. ⌜ r ≤ at + lineRoom ⌝ }
 {
-    let a = put_opening(out, at, k, src_id);
+    let a = put_opening(out, at, edition, k, src_id);
     let b = text::put_text(out, a, b" tx ");
     put_damage(out, b, tx, flips, worst, bytes)
 }
@@ -123,9 +160,16 @@ fn put_refused(out: &mut [u8], at: usize, k: u64, why: Refusal) -> usize
 }
 
 // Puts the line of record k, which has so many payload bytes.
-pub fn put_line(out: &mut [u8], at: usize, k: u64, bytes: usize, read: Read) -> usize
+pub fn put_line(
+    out: &mut [u8],
+    at: usize,
+    edition: Edition,
+    k: u64,
+    bytes: usize,
+    read: Read,
+) -> usize
     requires { ⌜ at + lineRoom ≤ length (now out) ⌝ }
-    ensures { λ r. ⌜ Put (now (out .entry)) at (lineOf k bytes read) (now (out .exit)) r ⌝ }
+    ensures { λ r. ⌜ Put (now (out .entry)) at (lineOf edition k bytes read) (now (out .exit)) r ⌝ }
     ensures { λ r. ⌜ r ≤ at + lineRoom ⌝ }
 {
     let answer = read.answer;
@@ -134,6 +178,7 @@ pub fn put_line(out: &mut [u8], at: usize, k: u64, bytes: usize, read: Read) -> 
         Answer::Accepted { header, flips } => put_accepted(
             out,
             at,
+            edition,
             k,
             header.fields.src_id,
             header.fields.fr_cnt_tx,
@@ -154,34 +199,31 @@ pub fn put_title(out: &mut [u8]) -> usize
     text::put_text(out, 0, b"pass sheet\n")
 }
 
-fn put_last(out: &mut [u8], at: usize, sheet: Sheet) -> usize
+fn put_last(out: &mut [u8], at: usize, tally: Tally) -> usize
     requires { ⌜ at + lineRoom ≤ length (now out) ⌝ }
-    ensures { λ r. ⌜ Put (now (out .entry)) at (lastLine sheet) (now (out .exit)) r ⌝ }
+    ensures { λ r. ⌜ Put (now (out .entry)) at (lastLine tally) (now (out .exit)) r ⌝ }
 {
-    let heard = sheet::heard(sheet);
-    let accepted = sheet::accepted(sheet);
-    let refused = sheet::refused(sheet);
     let a = text::put_text(out, at, b"heard ");
     put_three(
         out,
         a,
-        heard,
+        total(tally),
         b" accepted ",
-        accepted,
+        tally.accepted as u64,
         b" refused ",
-        refused,
+        tally.refused as u64,
         b"\n",
     )
 }
 
 // Puts the last line, after `cut` where the input was cut.
-pub fn put_closing(out: &mut [u8], at: usize, sheet: Sheet, cut: bool) -> usize
+pub fn put_closing(out: &mut [u8], at: usize, tally: Tally, cut: bool) -> usize
     requires { ⌜ at + 2 * lineRoom ≤ length (now out) ⌝ }
-    ensures { λ r. ⌜ Put (now (out .entry)) at (closingOf sheet cut) (now (out .exit)) r ⌝ }
+    ensures { λ r. ⌜ Put (now (out .entry)) at (closingOf tally cut) (now (out .exit)) r ⌝ }
 {
     if cut {
         let a = text::put_text(out, at, b"cut\n");
-        return put_last(out, a, sheet);
+        return put_last(out, a, tally);
     }
-    put_last(out, at, sheet)
+    put_last(out, at, tally)
 }

@@ -7,7 +7,8 @@ use Prim.Native.Nat.{ℕ, _<_, _≤_}
 use native.Mathlib.Omega.{arith}
 use lib.ListN.{length, take}
 use Rattle.air.specs.Air.{payloadLimit}
-use Rattle.sheet.specs.declared.Sheet.{Sheet}
+use Rattle.header.specs.declared.Rules.{Rules}
+use Rattle.lines.specs.declared.Tally.{Tally}
 use Rattle.listing.specs.declared.Listed.{Listed}
 use Rattle.record.specs.Records.{recordSize}
 use Rattle.listing.specs.Promises.{Turns}
@@ -37,16 +38,16 @@ more-open Done true true e = absurd (done-more e)
 more-open Failed true true e = absurd (failed-more e)
 
 -- what is left of the bytes read is within them, and what a turn leaves
-module _ (sheet : Sheet) (buf : List ℕ) (end : ℕ) (in-buf : end ≤ length buf) (out buf′ out′ : List ℕ) (r : Listed) (so : Turns sheet buf end out buf′ out′ r) where
+module _ (rules : Rules) (tally : Tally) (buf : List ℕ) (end : ℕ) (in-buf : end ≤ length buf) (out buf′ out′ : List ℕ) (r : Listed) (so : Turns rules tally buf end out buf′ out′ r) where
   pub left-in-read : r .left ≤ end
-  left-in-read = left-inside sheet buf end in-buf out out′ r (so .listed)
+  left-in-read = left-inside rules tally buf end in-buf out out′ r (so .listed)
 
   pub turn-leaves : (front : ℕ) (read next : Next) (wrote : Bool) → next ≡ onwardOf read (r .over) wrote
-      → Turned buf (record { sheet = r .sheet; front = front; kept = r .left; next = next })
+      → Turned buf (record { tally = r .tally; front = front; kept = r .left; next = next })
   turn-leaves front read next wrote is =
       record {
         inside = omega (arith, left-in-read);
-        short = λ e. left-short sheet (take end buf) out 0 out′ r (so .listed) (more-open read (r .over) wrote (sym is ∙ e));
+        short = λ e. left-short rules tally (take end buf) out 0 out′ r (so .listed) (more-open read (r .over) wrote (sym is ∙ e));
       }
 
 -- what holds at each turn

@@ -1,10 +1,15 @@
-// Scanned the records on standard input, after each read. It moves bytes and does nothing else: the text is `listing`'s.
-// Started with a word after its name, it also tells on standard error where and why a listing was cut.
+// Lists the records on standard input, after each read. It moves bytes and does nothing else: the text is `listing`'s. The words after
+// its name are those of `options`.
+mod options;
+
+use air::MOST_FLIPS;
+use base::Edition;
+use header::Rules;
 use libc::STDERR_FILENO;
 use libc::STDIN_FILENO;
 use libc::STDOUT_FILENO;
+use lines::Tally;
 use record::Cut;
-use sheet::Sheet;
 use word::table::TABLE_ROWS;
 ghost use mathlib.Core.Path.{_≡_};
 ghost use Prim.Native.Nat.{_*_, _<_, _≤_};
@@ -13,6 +18,7 @@ ghost use Rattle.word.specs.Repairs.{syndromes};
 ghost use Rattle.air.specs.Air.{payloadLimit};
 ghost use Rattle.record.specs.Records.{recordSize};
 ghost use Rattle.lines.specs.Rooms.{lineRoom};
+ghost use Rattle.listing.specs.Listing.{listedRules};
 ghost use Rattle.list.specs.Turns.{readOn, onwardOf, Turned};
 
 // How to go on.
@@ -31,9 +37,9 @@ struct Filled {
     next: Next,
 }
 
-// What a turn leaves: the sheet so far, the place in the input of the buffer's front, and how many bytes are kept there.
+// What a turn leaves: the tally so far, the place in the input of the buffer's front, and how many bytes are kept there.
 struct State {
-    sheet: Sheet,
+    tally: Tally,
     front: u64,
     kept: usize,
     next: Next,
@@ -104,7 +110,8 @@ fn after_write(read: Next, over: bool, wrote: bool) -> Next
 // Scanned what was read, and writes the lines. A place past 2^64, which no input reaches, would wrap.
 fn turn(
     table: &[u16; TABLE_ROWS],
-    sheet: Sheet,
+    rules: Rules,
+    tally: Tally,
     front: u64,
     filled: Filled,
     buf: &mut [u8],
@@ -116,23 +123,23 @@ fn turn(
     ensures { λ r. ⌜ Turned (now (buf .entry)) r ⌝ }
 {
     let end = filled.end;
-    let listed = listing::list_piece(table, sheet, buf, end, out);
+    let listed = listing::list_piece(table, rules, tally, buf, end, out);
     let left = listed.left;
     let passed = (end - left) as u64;
     let to = listed.to;
     let wrote = write(&out[..to]);
     let read = filled.next;
     let next = after_write(read, listed.over, wrote);
-    let after = listed.sheet;
+    let after = listed.tally;
     State {
-        sheet: after,
+        tally: after,
         front: std::num::wrapping_add_u64(front, passed),
         kept: left,
         next,
     }
 }
 
-// Tells where and why the listing is cut: what is left stands at that place, and a whole record is one that the sheet does not take.
+// Tells where and why the listing is cut: what is left stands at that place, and a whole record is one that a sheet does not take.
 fn tell_cut(left: &[u8], place: u64) {
     io::write_all(STDERR_FILENO, b"cut at byte ");
     io::print_decimal(STDERR_FILENO, place);
@@ -155,7 +162,7 @@ fn finish(strict: bool, end: State, buf: &[u8], out: &mut [u8])
     requires { ⌜ 2 * lineRoom ≤ length (now out) ⌝ }
 {
     let left = end.kept;
-    let n = lines::put_closing(out, 0, end.sheet, 0 < left);
+    let n = lines::put_closing(out, 0, end.tally, 0 < left);
     if !write(&out[..n]) {
         return;
     }
@@ -164,20 +171,24 @@ fn finish(strict: bool, end: State, buf: &[u8], out: &mut [u8])
     }
 }
 
-// Scanned the input, read by read. Where a read fails, the lines up to there are written, and no last line.
+// Lists the input, read by read. Where a read fails, the lines up to there are written, and no last line.
 // The turns are counted down from a number that no run uses up: each but the last reads a byte.
-fn list(table: &[u16; TABLE_ROWS], strict: bool, buf: &mut [u8], out: &mut [u8])
+fn list(table: &[u16; TABLE_ROWS], rules: Rules, strict: bool, buf: &mut [u8], out: &mut [u8])
     requires { ⌜ now table ≡ syndromes ⌝ }
+    requires { ⌜ rules ≡ listedRules (rules .edition) ⌝ }
     requires { ⌜ recordSize payloadLimit ≤ length (now buf) ⌝ }
     requires { ⌜ length (now buf) ≤ length (now out) ⌝ }
 {
-    let mut sheet = sheet::new_sheet();
+    let mut tally = Tally {
+        accepted: 0,
+        refused: 0,
+    };
     let mut front = 0;
     let mut kept = 0;
     let mut turns = u64::MAX;
     while turns > 0 {
         let filled = read_on(buf, kept);
-        let done = turn(table, sheet, front, filled, buf, out);
+        let done = turn(table, rules, tally, front, filled, buf, out);
         let next = done.next;
         match next {
             Next::More => {}
@@ -189,21 +200,34 @@ fn list(table: &[u16; TABLE_ROWS], strict: bool, buf: &mut [u8], out: &mut [u8])
                 return;
             }
         }
-        sheet = done.sheet;
+        tally = done.tally;
         front = done.front;
         kept = done.kept;
         turns -= 1;
     }
 }
 
-fn main() {
-    // the front end's one word is --strict
-    let strict = 1 < os::arg_count();
+// The listing of standard input under an edition, from the title on.
+fn run(edition: Edition, strict: bool) {
     let table = word::table::whole();
+    let rules = Rules {
+        edition,
+        limit: MOST_FLIPS,
+    };
     let mut buf = io::large_buffer();
     let mut out = io::large_buffer();
     let n = lines::put_title(&mut out);
     if write(&out[..n]) {
-        list(&table, strict, &mut buf, &mut out);
+        list(&table, rules, strict, &mut buf, &mut out);
     }
+}
+
+fn main() {
+    let asked = options::read();
+    if asked.wrong {
+        options::tell();
+        return;
+    }
+    let edition = asked.edition;
+    run(edition, asked.strict);
 }

@@ -5,11 +5,11 @@ use mathlib.Core.Bool.{false}
 use mathlib.Core.List.{List}
 use Prim.Native.Nat.{ℕ, _+_, _-_, _<_, _≤_}
 use native.Mathlib.Omega.{arith}
-use lib.Dec.{ltb}
 use lib.ListN.{length, take, drop, length-drop}
 use lib.Seq.{length-take-le, take-add, take-at, drop-at}
 use Rattle.text.specs.Text.{Put}
-use Rattle.sheet.specs.declared.Sheet.{Sheet}
+use Rattle.header.specs.declared.Rules.{Rules}
+use Rattle.lines.specs.declared.Tally.{Tally}
 use Rattle.listing.specs.declared.Listed.{Listed}
 use Rattle.record.specs.Records.{recordSize}
 use Rattle.listing.specs.Listing.{scanOf}
@@ -35,9 +35,9 @@ put-size {before} {text} {after} {at} {next} put = part-size after next (omega (
 drop-take : (from n : ℕ) (l : List ℕ) → from ≤ length l → drop from (take (from + n) l) ≡ take n (drop from l)
 drop-take from n l h = rw (take-add from n l) (drop-at (take from l) (take n (drop from l)) from (length-take-le from l h))
 
-module _ (sheet : Sheet) (buf : List ℕ) (end : ℕ) (inside : end ≤ length buf) (out out′ : List ℕ) (r : Listed) (so : Scanned sheet (take end buf) out 0 out′ r) where
-  suffix : Suffix (take end buf) (scanOf sheet (take end buf) .rest)
-  suffix = scan-rest sheet (take end buf)
+module _ (rules : Rules) (tally : Tally) (buf : List ℕ) (end : ℕ) (inside : end ≤ length buf) (out out′ : List ℕ) (r : Listed) (so : Scanned rules tally (take end buf) out 0 out′ r) where
+  suffix : Suffix (take end buf) (scanOf rules tally (take end buf) .rest)
+  suffix = scan-rest rules tally (take end buf)
 
   skipped : r .left + suffix .skip ≡ end
   skipped =
@@ -52,7 +52,7 @@ module _ (sheet : Sheet) (buf : List ℕ) (end : ℕ) (inside : end ≤ length b
   left-room = omega (arith, skipped)
 
   -- and is its end
-  left-rest : take (r .left) (drop (end - r .left) buf) ≡ scanOf sheet (take end buf) .rest
+  left-rest : take (r .left) (drop (end - r .left) buf) ≡ scanOf rules tally (take end buf) .rest
   left-rest =
       let from : ℕ = end - r .left in
       let all : from + r .left ≡ end = omega (arith, skipped) in
@@ -65,13 +65,13 @@ moved-front before from n after room moved =
     rw (moved .bytes) (take-at (take n (drop from before)) (drop n before) n (length-take-le n (drop from before) (omega (arith, length-drop from before))))
 
 -- so what is left of a piece then stands at the buffer's front
-pub kept-rest : (sheet : Sheet) (buf : List ℕ) (end : ℕ) → end ≤ length buf → (out buf′ out′ : List ℕ) (r : Listed) → Turns sheet buf end out buf′ out′ r
-    → take (r .left) buf′ ≡ scanOf sheet (take end buf) .rest
-kept-rest sheet buf end inside out buf′ out′ r turned =
-    moved-front buf (end - r .left) (r .left) buf′ (left-room sheet buf end inside out out′ r (turned .listed)) (turned .kept)
-    ∙ left-rest sheet buf end inside out out′ r (turned .listed)
+pub kept-rest : (rules : Rules) (tally : Tally) (buf : List ℕ) (end : ℕ) → end ≤ length buf → (out buf′ out′ : List ℕ) (r : Listed) → Turns rules tally buf end out buf′ out′ r
+    → take (r .left) buf′ ≡ scanOf rules tally (take end buf) .rest
+kept-rest rules tally buf end inside out buf′ out′ r turned =
+    moved-front buf (end - r .left) (r .left) buf′ (left-room rules tally buf end inside out out′ r (turned .listed)) (turned .kept)
+    ∙ left-rest rules tally buf end inside out out′ r (turned .listed)
 
 -- where the listing is not over, what is left is shorter than the longest record
-pub left-short : (sheet : Sheet) (l before : List ℕ) (at : ℕ) (after : List ℕ) (r : Listed) → Scanned sheet l before at after r → r .over ≡ false → r .left < recordSize payloadLimit
-left-short sheet l before at after r so e =
-    rw (so .left-is) (stopped-short (scanOf sheet l .sheet) (scanOf sheet l .rest) (rw (← so .over-is, e) at (scan-stopped sheet l)))
+pub left-short : (rules : Rules) (tally : Tally) (l before : List ℕ) (at : ℕ) (after : List ℕ) (r : Listed) → Scanned rules tally l before at after r → r .over ≡ false → r .left < recordSize payloadLimit
+left-short rules tally l before at after r so e =
+    rw (so .left-is) (stopped-short (scanOf rules tally l .tally) (scanOf rules tally l .rest) (rw (← so .over-is, e) at (scan-stopped rules tally l)))

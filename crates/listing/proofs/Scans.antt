@@ -8,80 +8,23 @@ use native.Mathlib.Nat.{le-refl}
 use native.Mathlib.Omega.{arith}
 use lib.ListN.{length, drop, length-drop}
 use lib.Seq.{drop-drop}
-use Rattle.sheet.specs.declared.Sheet.{Sheet}
-use Rattle.sheet.specs.Sheets.{fullOf}
+use Rattle.header.specs.declared.Rules.{Rules}
+use Rattle.lines.specs.declared.Tally.{Tally}
 use Rattle.record.specs.declared.Cut.{Cut}
 use Rattle.record.specs.declared.Cut.the-variants.{Record, TooLong, Short}
 use Rattle.record.specs.Records.{recordSize, cutOf}
-use Rattle.listing.specs.Listing.{Scan, stay, after, offeredIn, lineIn, scanAt, scanIn, scanOf}
+use Rattle.listing.specs.Listing.{Scan, fullAt, stay, after, tallyIn, lineIn, scanAt, scanIn, scanOf}
 use Rattle.record.proofs.Cuts.{no-length, whole-at, short-at}
 use Rattle.air.specs.Air.{payloadLimit}
 
--- what is done with the bytes after the first record matters only there
-at-same : (sheet : Sheet) (l : List ℕ) (more other : Sheet → List ℕ → Scan)
-    → ((s : Sheet) (n : ℕ) → more s (drop (recordSize n) l) ≡ other s (drop (recordSize n) l)) → (c : Cut) → scanAt sheet l c more ≡ scanAt sheet l c other
-at-same sheet l more other same (Record n) = ap (λ (r : Scan). cond (fullOf sheet) (stay sheet l true) (after (lineIn sheet n l) r)) (same (offeredIn sheet n l .sheet) n)
-at-same sheet l more other same TooLong = refl
-at-same sheet l more other same Short = refl
+-- the bytes that are left when no record is taken any more, and whether whatever follows changes that
+pub data Stopped (tally : Tally) (l : List ℕ) : Bool → Type 0 where
+  full : {n : ℕ} → cutOf l ≡ Record n → fullAt tally ≡ true → Stopped tally l true
+  long : cutOf l ≡ TooLong → Stopped tally l true
+  short : cutOf l ≡ Short → Stopped tally l false
 
-none-in : (most : ℕ) (sheet : Sheet) (l : List ℕ) → length l ≤ 0 → scanIn most sheet l ≡ stay sheet l false
-none-in zero sheet l h = refl
-none-in (suc most) sheet l h = rw (← no-length l (omega arith))
-
--- as many records as there are bytes are enough
-enough : (j k : ℕ) (sheet : Sheet) (l : List ℕ) → length l ≤ j → length l ≤ k → scanIn j sheet l ≡ scanIn k sheet l
-enough zero k sheet l a b = sym (none-in k sheet l a)
-enough (suc j) zero sheet l a b = none-in (suc j) sheet l b
-enough (suc j) (suc k) sheet l a b =
-    at-same sheet l (scanIn j) (scanIn k) (λ s n. enough j k s (drop (recordSize n) l) (omega (arith, length-drop (recordSize n) l)) (omega (arith, length-drop (recordSize n) l))) (cutOf l)
-
-module _ (sheet : Sheet) (l : List ℕ) where
-  scan-next : scanOf sheet l ≡ scanAt sheet l (cutOf l) scanOf
-  unfolding scanOf
-  scan-next =
-      enough (length l) (suc (length l)) sheet l (le-refl (length l)) (omega arith)
-      ∙ at-same sheet l (scanIn (length l)) (λ s m. scanIn (length m) s m) (λ s n. enough (length l) (length (drop (recordSize n) l)) s (drop (recordSize n) l) (omega (arith, length-drop (recordSize n) l)) (omega arith)) (cutOf l)
-
-  -- the bytes that are left when no record is taken any more, and whether whatever follows changes that
-  pub data Stopped : Bool → Type 0 where
-    full : {n : ℕ} → cutOf l ≡ Record n → fullOf sheet ≡ true → Stopped true
-    long : cutOf l ≡ TooLong → Stopped true
-    short : cutOf l ≡ Short → Stopped false
-
-  pub scan-stops : (over : Bool) → Stopped over → scanOf sheet l ≡ stay sheet l over
-  scan-stops over (full e g) = scan-next ∙ rw (e, g)
-  scan-stops over (long e) = scan-next ∙ rw e
-  scan-stops over (short e) = scan-next ∙ rw e
-
-  pub scan-takes : (n : ℕ) → cutOf l ≡ Record n → fullOf sheet ≡ false → scanOf sheet l ≡ after (lineIn sheet n l) (scanOf (offeredIn sheet n l .sheet) (drop (recordSize n) l))
-  scan-takes n e g = scan-next ∙ rw (e, g)
-
--- what holds where no record is taken, and of some bytes where it holds of those after their first record, holds of all
-module _ (P : Sheet → List ℕ → Type 0)
-    (stops : (sheet : Sheet) (l : List ℕ) (over : Bool) → Stopped sheet l over → P sheet l)
-    (takes : (sheet : Sheet) (l : List ℕ) (n : ℕ) → cutOf l ≡ Record n → fullOf sheet ≡ false → P (offeredIn sheet n l .sheet) (drop (recordSize n) l) → P sheet l) where
-  within : (most : ℕ) (sheet : Sheet) (l : List ℕ) → length l ≤ most → P sheet l
-  within zero sheet l h = stops sheet l false (short (sym (no-length l (omega arith))))
-  within (suc most) sheet l h = by (cutOf l) refl (fullOf sheet) refl (λ s n. within most s (drop (recordSize n) l) (omega (arith, length-drop (recordSize n) l)))
-    where
-      by : (c : Cut) → cutOf l ≡ c → (b : Bool) → fullOf sheet ≡ b → ((s : Sheet) (n : ℕ) → P s (drop (recordSize n) l)) → P sheet l
-      by TooLong e b g more = stops sheet l true (long e)
-      by Short e b g more = stops sheet l false (short e)
-      by (Record n) e true g more = stops sheet l true (full e g)
-      by (Record n) e false g more = takes sheet l n e g (more (offeredIn sheet n l .sheet) n)
-
-  pub by-records : (sheet : Sheet) (l : List ℕ) → P sheet l
-  by-records sheet l = within (length l) sheet l (le-refl (length l))
-
--- what is left when nothing more is taken
-pub scan-stopped : (sheet : Sheet) (l : List ℕ) → Stopped (scanOf sheet l .sheet) (scanOf sheet l .rest) (scanOf sheet l .over)
-scan-stopped =
-    by-records (λ sheet l. Stopped (scanOf sheet l .sheet) (scanOf sheet l .rest) (scanOf sheet l .over))
-    (λ sheet l over so. rw (scan-stops sheet l over so) so)
-    (λ sheet l n e g more. rw (scan-takes sheet l n e g) more)
-
-pub stopped-short : (sheet : Sheet) (l : List ℕ) → Stopped sheet l false → length l < recordSize payloadLimit
-stopped-short sheet l (short e) = short-at l e
+pub stopped-short : (tally : Tally) (l : List ℕ) → Stopped tally l false → length l < recordSize payloadLimit
+stopped-short tally l (short e) = short-at l e
 
 -- what is left is the end of the bytes
 pub record Suffix (l rest : List ℕ) : Type 0 where
@@ -89,12 +32,70 @@ pub record Suffix (l rest : List ℕ) : Type 0 where
   pub inside : skip ≤ length l
   pub is : drop skip l ≡ rest
 
-pub scan-rest : (sheet : Sheet) (l : List ℕ) → Suffix l (scanOf sheet l .rest)
-scan-rest =
-    by-records (λ sheet l. Suffix l (scanOf sheet l .rest))
-    (λ sheet l over so. record { skip = 0; inside = zero-le; is = rw (scan-stops sheet l over so) })
-    (λ sheet l n e g more. record {
-      skip = recordSize n + more .skip;
-      inside = omega (arith, more .inside, whole-at l n e .there, length-drop (recordSize n) l);
-      is = sym (drop-drop (more .skip) (recordSize n) l) ∙ rw (scan-takes sheet l n e g) (more .is);
-    })
+module _ (rules : Rules) where
+  -- what is done with the bytes after the first record matters only there
+  at-same : (tally : Tally) (l : List ℕ) (more other : Tally → List ℕ → Scan)
+      → ((t : Tally) (n : ℕ) → more t (drop (recordSize n) l) ≡ other t (drop (recordSize n) l)) → (c : Cut) → scanAt rules tally l c more ≡ scanAt rules tally l c other
+  at-same tally l more other same (Record n) = ap (λ (r : Scan). cond (fullAt tally) (stay tally l true) (after (lineIn rules tally n l) r)) (same (tallyIn rules tally n l) n)
+  at-same tally l more other same TooLong = refl
+  at-same tally l more other same Short = refl
+
+  none-in : (most : ℕ) (tally : Tally) (l : List ℕ) → length l ≤ 0 → scanIn rules most tally l ≡ stay tally l false
+  none-in zero tally l h = refl
+  none-in (suc most) tally l h = rw (← no-length l (omega arith))
+
+  -- as many records as there are bytes are enough
+  enough : (j k : ℕ) (tally : Tally) (l : List ℕ) → length l ≤ j → length l ≤ k → scanIn rules j tally l ≡ scanIn rules k tally l
+  enough zero k tally l a b = sym (none-in k tally l a)
+  enough (suc j) zero tally l a b = none-in (suc j) tally l b
+  enough (suc j) (suc k) tally l a b =
+      at-same tally l (scanIn rules j) (scanIn rules k) (λ t n. enough j k t (drop (recordSize n) l) (omega (arith, length-drop (recordSize n) l)) (omega (arith, length-drop (recordSize n) l))) (cutOf l)
+
+  module _ (tally : Tally) (l : List ℕ) where
+    scan-next : scanOf rules tally l ≡ scanAt rules tally l (cutOf l) (scanOf rules)
+    unfolding scanOf
+    scan-next =
+        enough (length l) (suc (length l)) tally l (le-refl (length l)) (omega arith)
+        ∙ at-same tally l (scanIn rules (length l)) (λ t m. scanIn rules (length m) t m) (λ t n. enough (length l) (length (drop (recordSize n) l)) t (drop (recordSize n) l) (omega (arith, length-drop (recordSize n) l)) (omega arith)) (cutOf l)
+
+    pub scan-stops : (over : Bool) → Stopped tally l over → scanOf rules tally l ≡ stay tally l over
+    scan-stops over (full e g) = scan-next ∙ rw (e, g)
+    scan-stops over (long e) = scan-next ∙ rw e
+    scan-stops over (short e) = scan-next ∙ rw e
+
+    pub scan-takes : (n : ℕ) → cutOf l ≡ Record n → fullAt tally ≡ false → scanOf rules tally l ≡ after (lineIn rules tally n l) (scanOf rules (tallyIn rules tally n l) (drop (recordSize n) l))
+    scan-takes n e g = scan-next ∙ rw (e, g)
+
+  -- what holds where no record is taken, and of some bytes where it holds of those after their first record, holds of all
+  module _ (P : Tally → List ℕ → Type 0)
+      (stops : (tally : Tally) (l : List ℕ) (over : Bool) → Stopped tally l over → P tally l)
+      (takes : (tally : Tally) (l : List ℕ) (n : ℕ) → cutOf l ≡ Record n → fullAt tally ≡ false → P (tallyIn rules tally n l) (drop (recordSize n) l) → P tally l) where
+    within : (most : ℕ) (tally : Tally) (l : List ℕ) → length l ≤ most → P tally l
+    within zero tally l h = stops tally l false (short (sym (no-length l (omega arith))))
+    within (suc most) tally l h = by (cutOf l) refl (fullAt tally) refl (λ t n. within most t (drop (recordSize n) l) (omega (arith, length-drop (recordSize n) l)))
+      where
+        by : (c : Cut) → cutOf l ≡ c → (b : Bool) → fullAt tally ≡ b → ((t : Tally) (n : ℕ) → P t (drop (recordSize n) l)) → P tally l
+        by TooLong e b g more = stops tally l true (long e)
+        by Short e b g more = stops tally l false (short e)
+        by (Record n) e true g more = stops tally l true (full e g)
+        by (Record n) e false g more = takes tally l n e g (more (tallyIn rules tally n l) n)
+
+    pub by-records : (tally : Tally) (l : List ℕ) → P tally l
+    by-records tally l = within (length l) tally l (le-refl (length l))
+
+  -- what is left when nothing more is taken
+  pub scan-stopped : (tally : Tally) (l : List ℕ) → Stopped (scanOf rules tally l .tally) (scanOf rules tally l .rest) (scanOf rules tally l .over)
+  scan-stopped =
+      by-records (λ tally l. Stopped (scanOf rules tally l .tally) (scanOf rules tally l .rest) (scanOf rules tally l .over))
+      (λ tally l over so. rw (scan-stops tally l over so) so)
+      (λ tally l n e g more. rw (scan-takes tally l n e g) more)
+
+  pub scan-rest : (tally : Tally) (l : List ℕ) → Suffix l (scanOf rules tally l .rest)
+  scan-rest =
+      by-records (λ tally l. Suffix l (scanOf rules tally l .rest))
+      (λ tally l over so. record { skip = 0; inside = zero-le; is = rw (scan-stops tally l over so) })
+      (λ tally l n e g more. record {
+        skip = recordSize n + more .skip;
+        inside = omega (arith, more .inside, whole-at l n e .there, length-drop (recordSize n) l);
+        is = sym (drop-drop (more .skip) (recordSize n) l) ∙ rw (scan-takes tally l n e g) (more .is);
+      })

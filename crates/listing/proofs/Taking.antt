@@ -1,31 +1,45 @@
--- A record that is taken: the sheet after it, and its line.
+-- An answer that is counted; and a record that is taken: the tally after it, and its line.
 -- Assumes nothing.
-use mathlib.Core.Path.{_≡_, ap, subst}
+use mathlib.Core.Path.{_≡_, ap, subst, _∙_}
 use mathlib.Core.List.{List}
 use Prim.Native.Nat.{ℕ, _+_, _-_, _≤_}
 use native.Mathlib.Omega.{arith}
 use lib.ListN.{take, drop}
 use Rattle.text.specs.Text.{Put}
-use Rattle.frame.specs.Frames.{frame}
-use Rattle.sheet.specs.declared.Sheet.{Sheet}
-use Rattle.sheet.specs.declared.Offered.{Offered}
-use Rattle.sheet.specs.Sheets.{heardOf, offerOf}
+use Rattle.base.specs.declared.Refusal.{Refusal}
+use Rattle.header.specs.declared.Header.{Header}
+use Rattle.header.specs.declared.Answer.{Answer}
+use Rattle.header.specs.declared.Answer.the-variants.{Accepted, Refused}
+use Rattle.header.specs.declared.Rules.{Rules}
+use Rattle.header.specs.declared.Read.{Read}
+use Rattle.frame.specs.Frames.{frame, frameRead}
+use Rattle.frame.proofs.Rules.{frame-answer}
 use Rattle.record.specs.Records.{airIn, payloadStart, recordSize}
+use Rattle.lines.specs.declared.Tally.{Tally}
+use Rattle.lines.specs.Tallies.{totalOf, tallyAfter}
 use Rattle.lines.specs.Lines.{lineOf}
-use Rattle.listing.specs.Listing.{listedRules, offeredIn}
-use Rattle.listing.specs.Promises.{Takes}
 use Rattle.lines.specs.Rooms.{lineRoom}
+use Rattle.listing.specs.Listing.{frameIn}
+use Rattle.listing.specs.Promises.{Takes}
+
+-- an answer adds one to its count
+module _ (tally : Tally) (a : Answer) where
+  pub counts-accepted : (h : Header) (flips : ℕ) → a ≡ Accepted h flips → _≡_ {A = Tally} (record { accepted = tally .accepted + 1; refused = tally .refused }) (tallyAfter tally a)
+  counts-accepted h flips e = rw e
+
+  pub counts-refused : (why : Refusal) → a ≡ Refused why → _≡_ {A = Tally} (record { accepted = tally .accepted; refused = tally .refused + 1 }) (tallyAfter tally a)
+  counts-refused why e = rw e
 
 -- the payload ends where the record ends
-pub takes : (sheet : Sheet) (k : ℕ) → k ≡ heardOf sheet → (l : List ℕ) (n : ℕ) (before : List ℕ) (at : ℕ) (after : List ℕ) (next : ℕ) (o : Offered)
-    → o ≡ offerOf sheet (frame listedRules (airIn l) (take (recordSize n - payloadStart) (drop payloadStart l)))
-    → Put before at (lineOf k n (o .read)) after next → next ≤ at + lineRoom
-    → Takes sheet l n before at after (record { sheet = o .sheet; to = next })
-takes sheet k number l n before at after next o is put short =
+pub takes : (rules : Rules) (tally : Tally) (k : ℕ) → k ≡ totalOf tally → (l : List ℕ) (n : ℕ) (before : List ℕ) (at : ℕ) (after : List ℕ) (next : ℕ) (r : Read)
+    → r ≡ frameRead (frame rules (airIn l) (take (recordSize n - payloadStart) (drop payloadStart l)))
+    → Put before at (lineOf (rules .edition) k n r) after next → next ≤ at + lineRoom → (counted : Tally) → counted ≡ tallyAfter tally (r .answer)
+    → Takes rules tally l n before at after (record { tally = counted; to = next })
+takes rules tally k number l n before at after next r is put short counted counts =
     let same : recordSize n - payloadStart ≡ n = omega arith in
-    let offered : o ≡ offeredIn sheet n l = rw same at is in
+    let read : r ≡ frameRead (frameIn rules n l) = rw same at is in
     record {
-      sheet-is = ap (λ (x : Offered). x .sheet) offered;
-      line = rw (← number) (subst (λ (x : Offered). Put before at (lineOf k n (x .read)) after next) offered put);
+      tally-is = counts ∙ ap (tallyAfter tally) (frame-answer (frameIn rules n l) r read);
+      line = rw (← number) (subst (λ (x : Read). Put before at (lineOf (rules .edition) k n x) after next) read put);
       short = short;
     }

@@ -1,3 +1,4 @@
 pub mod Listing
 pub mod Pieces
+pub mod Offers
 pub mod Promises

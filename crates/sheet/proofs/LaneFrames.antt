@@ -8,6 +8,7 @@ use Prim.Native.Nat.{ℕ}
 use Rattle.header.specs.declared.Answer.{Answer}
 use Rattle.header.specs.declared.Answer.the-variants.{Accepted, Refused}
 use Rattle.frame.specs.Frames.{Frame, frameOf}
+use Rattle.base.specs.declared.Edition.{Edition}
 use Rattle.sheet.specs.Lanes.{Role}
 use Rattle.sheet.specs.Sheets.{laneAt}
 use Rattle.sheet.specs.Histories.{sheetOf, takenFrom, ofLane, laneFrames, Own, ownIn, ownOf, replayOf}
@@ -30,8 +31,8 @@ module _ (k : ℕ) (role : Role) where
       by false e later = rw (not-own (frameOf f) e) later
 
   -- what a lane hears of its frames makes its numbers
-  pub heard-only : (one other : List Frame) → ownOf k role (takenFrom one) ≡ ownOf k role (takenFrom other) → laneAt (sheetOf one) k role ≡ laneAt (sheetOf other) k role
-  heard-only one other same = own-lane one k role ∙ ap replayOf same ∙ sym (own-lane other k role)
+  pub heard-only : (own : Edition) (one other : List Frame) → ownOf k role (takenFrom own one) ≡ ownOf k role (takenFrom own other) → laneAt (sheetOf own one) k role ≡ laneAt (sheetOf own other) k role
+  heard-only own one other same = own-lane own one k role ∙ ap replayOf same ∙ sym (own-lane own other k role)
 
-  pub frames-only : (one other : List Frame) → laneFrames k role (takenFrom one) ≡ laneFrames k role (takenFrom other) → laneAt (sheetOf one) k role ≡ laneAt (sheetOf other) k role
-  frames-only one other same = heard-only one other (own-kept (takenFrom one) ∙ ap (ownOf k role) same ∙ sym (own-kept (takenFrom other)))
+  pub frames-only : (own : Edition) (one other : List Frame) → laneFrames k role (takenFrom own one) ≡ laneFrames k role (takenFrom own other) → laneAt (sheetOf own one) k role ≡ laneAt (sheetOf own other) k role
+  frames-only own one other same = heard-only own one other (own-kept (takenFrom own one) ∙ ap (ownOf k role) same ∙ sym (own-kept (takenFrom own other)))

@@ -2,9 +2,11 @@ pub mod Growing
 pub mod Lanes
 pub mod Totals
 pub mod Offering
+pub mod WideSheets
 pub mod Refusals
 pub mod Counted
 pub mod Running
 pub mod Replay
 pub mod History
 pub mod LaneFrames
+pub mod Tallies

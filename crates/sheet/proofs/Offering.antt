@@ -1,7 +1,8 @@
--- A frame offered to a sheet: what changes there, the place that its answer has, refusal 17, and what is left to the frame.
+-- A frame offered to a sheet: what changes there, the place that its answer has, refusals 17 and 22, and what is left to the frame.
 -- Assumes nothing.
 use mathlib.Core.Path.{_≡_, refl, sym, ap, ap₂, _∙_}
-use mathlib.Core.Bool.{Bool, true, false}
+use mathlib.Core.Bool.{Bool, true, false, true≢false}
+use mathlib.Core.Logic.{⊎-elim}
 use mathlib.Core.List.{List}
 use Prim.Native.Nat.{ℕ, _+_, _≤_, _<_}
 use native.Mathlib.Omega.{arith}
@@ -9,10 +10,13 @@ use lib.Dec.{leb, eqb}
 use lib.ListN.{getD, set, replicate}
 use borrow.Author.Tests.{lt-ltb, le-ltb, le-leb, lt-leb, leb-true, leb-false, eq-eqb, ne-eqb}
 use Rattle.base.specs.declared.Refusal.{Refusal}
+use Rattle.base.specs.declared.Edition.{Edition}
+use Rattle.base.specs.declared.Edition.the-variants.{Flown, Corrected}
 use Rattle.base.specs.Checks.{refusal}
 use Rattle.base.specs.Lists.{lowest}
 use Rattle.base.proofs.Lowest.{Passed, starts, goes-on, stops, ends}
 use Rattle.base.proofs.Numbers.{placed}
+use Rattle.base.proofs.Tests.{lt-or-ge}
 use Rattle.air.specs.Air.{wordCount}
 use Rattle.air.specs.Flips.{mostFlips}
 use Rattle.header.specs.declared.Header.{Header}
@@ -20,7 +24,7 @@ use Rattle.header.specs.declared.Read.{Read}
 use Rattle.header.specs.declared.Rules.{Rules}
 use Rattle.header.specs.declared.Answer.{Answer}
 use Rattle.header.specs.declared.Answer.the-variants.{Accepted, Refused}
-use Rattle.header.specs.Patterns.{patternsOf}
+use Rattle.header.specs.Patterns.{beside, patternsOf}
 use Rattle.header.proofs.Beside.{beside-answer}
 use Rattle.frame.specs.Frames.{Frame, frame, frameNumbers, frameOf, frameRead}
 use Rattle.frame.proofs.Bounds.{frame-source, frame-number, frame-flips}
@@ -30,11 +34,11 @@ use Rattle.sheet.specs.declared.Sheet.{Sheet}
 use Rattle.sheet.specs.declared.Offered.{Offered}
 use Rattle.sheet.specs.Records.{addOf}
 use Rattle.sheet.specs.Lanes.{silent, recordOf, hearOf}
-use Rattle.sheet.specs.Sheets.{records, counted, refusalCounts, slotOf, newSheet, sourceAt, refusalsAt, acceptOf, refuseOf, countedOf, heardOf, fullSheet, fullOf, offerAnswer, takenOf, offerOf}
+use Rattle.sheet.specs.Sheets.{recordsOf, counted, refusalCounts, slotOf, newSheet, sourceAt, acceptOf, countsAfter, countedOf, heardOf, fullSheet, fullOf, sameEdition, editionOf, offerAnswer, takenOf, offerOf}
 
 -- a sheet that was offered nothing
-pub starts-new : (s : Source) → s ≡ silent → record { sources = replicate records s; refusals = replicate refusalCounts 0 } ≡ newSheet
-starts-new s none = rw none
+pub starts-new : (own : Edition) (s : Source) → s ≡ silent → record { sources = replicate (recordsOf own) s; refusals = replicate refusalCounts 0 } ≡ newSheet own
+starts-new own s none = rw none
 
 -- the sheet with one record changed
 pub accepts : (sheet : Sheet) (h : Header) (flips : ℕ) (changed : Source) → changed ≡ hearOf (sourceAt sheet (recordOf h)) h flips → record { sources = set (sheet .sources) (recordOf h) changed; refusals = sheet .refusals } ≡ acceptOf sheet h flips
@@ -64,79 +68,138 @@ module _ (number : ℕ) where
     unfolding slotOf
     look-ends h = ends refusalCounts isNumber k so h
 
--- the sheet with one count changed, or unchanged
-module _ (sheet : Sheet) (number k : ℕ) (found : k ≡ slotOf number) where
-  pub refuses-not : refusalCounts ≤ k → sheet ≡ refuseOf sheet number
-  unfolding refuseOf
+-- the counts with one changed, or unchanged
+module _ (counts : List ℕ) (number k : ℕ) (found : k ≡ slotOf number) where
+  pub refuses-not : refusalCounts ≤ k → counts ≡ countsAfter counts number
+  unfolding countsAfter
   refuses-not h = rw (← found, le-ltb k refusalCounts h)
 
-  pub refuses : k < refusalCounts → (changed : ℕ) → changed ≡ addOf (refusalsAt sheet k) 1 → record { sources = sheet .sources; refusals = set (sheet .refusals) k changed } ≡ refuseOf sheet number
-  unfolding refuseOf
+  pub refuses : k < refusalCounts → (changed : ℕ) → changed ≡ addOf (getD counts k 0) 1 → set counts k changed ≡ countsAfter counts number
+  unfolding countsAfter
   refuses h changed is = rw (← found, lt-ltb k refusalCounts h, is)
 
 -- the test of the sum
-pub fills : (sheet : Sheet) (sum : ℕ) → sum ≡ heardOf sheet → leb fullSheet sum ≡ fullOf sheet
-fills sheet sum is = rw is
+pub fills : (own : Edition) (sheet : Sheet) (sum : ℕ) → sum ≡ heardOf own sheet → leb fullSheet sum ≡ fullOf own sheet
+fills own sheet sum is = rw is
+
+-- two editions are the same where the test says so
+pub same-is : (a b : Edition) → sameEdition a b ≡ true → a ≡ b
+same-is Flown Flown e = refl
+same-is Flown Corrected e = absurd (true≢false (sym e))
+same-is Corrected Flown e = absurd (true≢false (sym e))
+same-is Corrected Corrected e = refl
+
+pub same-self : (a : Edition) → sameEdition a a ≡ true
+same-self Flown = refl
+same-self Corrected = refl
 
 -- a number that has a count
 abbrev pub HasSlot : ℕ → Type 0
 HasSlot number = slotOf number < refusalCounts
 
 -- the answers that have their place on a sheet
-pub data Countable : Answer → Type 0 where
-  recorded : {h : Header} {flips : ℕ} → recordOf h < records → flips ≤ mostFlips → Countable (Accepted h flips)
-  numbered : {why : Refusal} → HasSlot (why .number) → Countable (Refused why)
+pub data Countable (own : Edition) : Answer → Type 0 where
+  recorded : {h : Header} {flips : ℕ} → recordOf h < recordsOf own → flips ≤ mostFlips → Countable own (Accepted h flips)
+  numbered : {why : Refusal} → HasSlot (why .number) → Countable own (Refused why)
 
--- every answer to a frame has
-pub frame-countable : (f : Frame) → Countable (frameOf f)
+-- every answer to a frame of the sheet's edition has
+pub frame-countable : (own : Edition) (f : Frame) → editionOf f ≡ own → Countable own (frameOf f)
 unfolding slotOf lowest
-frame-countable f = by (frameOf f) refl
+frame-countable own f same = by (frameOf f) refl
   where
-    by : (a : Answer) → frameOf f ≡ a → Countable a
-    by (Accepted h flips) is = recorded {h = h} (omega (arith, frame-source f h flips is)) (frame-flips f h flips is)
+    by : (a : Answer) → frameOf f ≡ a → Countable own a
+    by (Accepted h flips) is = recorded {h = h} (omega (arith, rw same at (frame-source f h flips is))) (frame-flips f h flips is)
     by (Refused why) is = numbered (placed counted frameNumbers (why .number) refl (frame-number f why is))
 
--- a full sheet gives 17, and any other the frame's answer
-module _ (sheet : Sheet) (f : Frame) where
-  answers-17 : fullSheet ≤ heardOf sheet → offerAnswer sheet f ≡ Refused (refusal 17 fullSheet)
+-- a full sheet gives 17, one of the other edition 22, and any other the frame's answer
+module _ (own : Edition) (sheet : Sheet) (f : Frame) where
+  answers-17 : fullSheet ≤ heardOf own sheet → offerAnswer own sheet f ≡ Refused (refusal 17 fullSheet)
   unfolding offerAnswer
-  answers-17 many = rw (le-leb fullSheet (heardOf sheet) many)
+  answers-17 many = rw (le-leb fullSheet (heardOf own sheet) many)
 
-  pub answers-frame : heardOf sheet < fullSheet → offerAnswer sheet f ≡ frameOf f
+  answers-22 : heardOf own sheet < fullSheet → sameEdition (editionOf f) own ≡ false → offerAnswer own sheet f ≡ Refused (refusal 22 0)
   unfolding offerAnswer
-  answers-frame room = rw (lt-leb fullSheet (heardOf sheet) room) (sym (frame-first f))
+  answers-22 room other = rw (lt-leb fullSheet (heardOf own sheet) room, other)
 
--- 17 has no count, so the sheet stays as it is
-stays-17 : (sheet : Sheet) → refuseOf sheet 17 ≡ sheet
-unfolding refuseOf slotOf lowest
-stays-17 sheet = refl
+  pub answers-frame : heardOf own sheet < fullSheet → editionOf f ≡ own → offerAnswer own sheet f ≡ frameOf f
+  unfolding offerAnswer
+  answers-frame room same =
+      let tested : sameEdition (editionOf f) own ≡ true = rw same (same-self own) in
+      rw (lt-leb fullSheet (heardOf own sheet) room, tested) (sym (frame-first f))
 
-pub full-refuses : (sheet : Sheet) (f : Frame) → fullSheet ≤ heardOf sheet → offerOf sheet f ≡ record { read = record { answer = Refused (refusal 17 fullSheet); patterns = replicate wordCount 0 }; sheet = sheet }
-full-refuses sheet f many = rw (answers-17 sheet f many, stays-17 sheet)
+-- 17 and 22 have no count, so the sheet stays as it is
+stays-17 : (counts : List ℕ) → countsAfter counts 17 ≡ counts
+unfolding countsAfter slotOf lowest
+stays-17 counts = refl
 
--- a sheet with room takes the frame
-pub room-takes : (sheet : Sheet) (f : Frame) → heardOf sheet < fullSheet → offerOf sheet f ≡ takenOf sheet (patternsOf (f .head)) (frameOf f)
-room-takes sheet f room = ap (takenOf sheet (patternsOf (f .head))) (answers-frame sheet f room)
+stays-22 : (counts : List ℕ) → countsAfter counts 22 ≡ counts
+unfolding countsAfter slotOf lowest
+stays-22 counts = refl
 
--- the patterns leave the answer as it is
-pub offered-answer : (sheet : Sheet) (f : Frame) → offerOf sheet f .read .answer ≡ offerAnswer sheet f
-offered-answer sheet f = beside-answer (patternsOf (f .head)) (offerAnswer sheet f)
+module _ (own : Edition) (sheet : Sheet) (f : Frame) where
+  pub full-refuses : fullSheet ≤ heardOf own sheet → offerOf own sheet f ≡ record { read = record { answer = Refused (refusal 17 fullSheet); patterns = replicate wordCount 0 }; sheet = sheet }
+  full-refuses many = rw (answers-17 own sheet f many, stays-17 (sheet .refusals))
 
--- THE SAME, as the sheet finds it: what was read of the frame, and a what its answer was found to be
-module _ (sheet : Sheet) (rules : Rules) (air payload : List ℕ) where
-  pub gives-17 : (full : Bool) → full ≡ fullOf sheet → full ≡ true → record { read = record { answer = Refused (refusal 17 fullSheet); patterns = replicate wordCount 0 }; sheet = sheet } ≡ offerOf sheet (frame rules air payload)
-  gives-17 full tested taken = sym (full-refuses sheet (frame rules air payload) (leb-true fullSheet (heardOf sheet) (sym tested ∙ taken)))
+  pub other-refuses : heardOf own sheet < fullSheet → sameEdition (editionOf f) own ≡ false
+      → offerOf own sheet f ≡ record { read = record { answer = Refused (refusal 22 0); patterns = replicate wordCount 0 }; sheet = sheet }
+  other-refuses room other = rw (answers-22 own sheet f room other, stays-22 (sheet .refusals))
 
-  module _ (read : Read) (is : read ≡ frameRead (frame rules air payload)) where
-    pub has-record : (h : Header) (flips : ℕ) → read .answer ≡ Accepted h flips → recordOf h < records
-    has-record h flips e = omega (arith, frame-source (frame rules air payload) h flips (sym (frame-answer (frame rules air payload) read is) ∙ e))
+  -- a sheet with room takes a frame of its edition
+  pub room-takes : heardOf own sheet < fullSheet → editionOf f ≡ own → offerOf own sheet f ≡ takenOf sheet (patternsOf (f .head)) (frameOf f)
+  room-takes room same = ap (takenOf sheet (patternsOf (f .head))) (answers-frame own sheet f room same)
 
-    pub takes : heardOf sheet < fullSheet → (a : Answer) → read .answer ≡ a → (after : Sheet) → after ≡ countedOf sheet a → record { read = read; sheet = after } ≡ offerOf sheet (frame rules air payload)
+  -- and stays as it is at any other
+  pub other-stays : sameEdition (editionOf f) own ≡ false → offerOf own sheet f .sheet ≡ sheet
+  other-stays other =
+      ⊎-elim (λ (room : heardOf own sheet < fullSheet). ap (λ (o : Offered). o .sheet) (other-refuses room other))
+      (λ (many : fullSheet ≤ heardOf own sheet). ap (λ (o : Offered). o .sheet) (full-refuses many))
+      (lt-or-ge (heardOf own sheet) fullSheet)
+
+  -- the patterns leave the answer as it is
+  pub offered-answer : offerOf own sheet f .read .answer ≡ offerAnswer own sheet f
+  offered-answer = beside-answer (patternsOf (f .head)) (offerAnswer own sheet f)
+
+-- THE SAME, as either sheet finds it: what it holds, and what is made of an offered frame's answer and sheet
+module _ {S R : Type 0} (own : Edition) (held : S → Sheet) (from : Offered → R) (sheet : S) (rules : Rules) (air payload : List ℕ) where
+  abbrev f : Frame
+  f = frame rules air payload
+
+  pub gives-17 : (read : Read) → read ≡ beside (replicate wordCount 0) (Refused (refusal 17 fullSheet)) → (full : Bool) → full ≡ fullOf own (held sheet) → full ≡ true
+      → from (record { read = read; sheet = held sheet }) ≡ from (offerOf own (held sheet) (frame rules air payload))
+  gives-17 read is full tested taken =
+      ap from (rw is (sym (full-refuses own (held sheet) f (leb-true fullSheet (heardOf own (held sheet)) (sym tested ∙ taken)))))
+
+  module _ (full : Bool) (tested : full ≡ fullOf own (held sheet)) (left : full ≡ false) where
+    pub has-room : heardOf own (held sheet) < fullSheet
+    has-room = leb-false fullSheet (heardOf own (held sheet)) (sym tested ∙ left)
+
+    pub gives-22 : (same : Bool) → same ≡ sameEdition (rules .edition) own → same ≡ false → (read : Read) → read ≡ beside (replicate wordCount 0) (Refused (refusal 22 0))
+        → from (record { read = read; sheet = held sheet }) ≡ from (offerOf own (held sheet) (frame rules air payload))
+    gives-22 same compared other read is = ap from (rw is (sym (other-refuses own (held sheet) f has-room (sym compared ∙ other))))
+
+  module _ (read : Read) (is : read ≡ frameRead (frame rules air payload)) (mine : rules .edition ≡ own) where
+    pub has-record : (h : Header) (flips : ℕ) → read .answer ≡ Accepted h flips → recordOf h < recordsOf own
+    has-record h flips e = omega (arith, rw mine at (frame-source f h flips (sym (frame-answer f read is) ∙ e)))
+
+    pub takes : heardOf own (held sheet) < fullSheet → (a : Answer) → read .answer ≡ a → (after : Sheet) → after ≡ countedOf (held sheet) a
+        → from (record { read = read; sheet = after }) ≡ from (offerOf own (held sheet) (frame rules air payload))
     takes room a e after counts =
-        let same : a ≡ frameOf (frame rules air payload) = sym e ∙ frame-answer (frame rules air payload) read is in
-        ap₂ (λ (x : Read) (y : Sheet). record { read = x; sheet = y }) (is ∙ frame-read-is (frame rules air payload)) (counts ∙ ap (countedOf sheet) same)
-        ∙ sym (room-takes sheet (frame rules air payload) room)
+        let same : a ≡ frameOf f = sym e ∙ frame-answer f read is in
+        ap from
+        (ap₂ (λ (x : Read) (y : Sheet). record { read = x; sheet = y }) (is ∙ frame-read-is f) (counts ∙ ap (countedOf (held sheet)) same)
+        ∙ sym (room-takes own (held sheet) f room mine))
 
--- a sheet that is not found full has room
-pub has-room : (sheet : Sheet) (full : Bool) → full ≡ fullOf sheet → full ≡ false → heardOf sheet < fullSheet
-has-room sheet full tested left = leb-false fullSheet (heardOf sheet) (sym tested ∙ left)
+    pub takes-refusal : heardOf own (held sheet) < fullSheet → (why : Refusal) → read .answer ≡ Refused why → (changed : List ℕ) → changed ≡ countsAfter (held sheet .refusals) (why .number)
+        → from (record { read = read; sheet = record { sources = held sheet .sources; refusals = changed } }) ≡ from (offerOf own (held sheet) (frame rules air payload))
+    takes-refusal room why e changed is = takes room (Refused why) e (record { sources = held sheet .sources; refusals = changed }) (rw is)
+
+-- of the flown sheet, that is the sheet and the answer themselves
+abbrev pub itself : Sheet → Sheet
+itself sheet = sheet
+
+abbrev pub asGiven : Offered → Offered
+asGiven offered = offered
+
+-- the edition that was found to be the sheet's
+pub mine : (own edition : Edition) (same : Bool) → same ≡ sameEdition edition own → same ≡ true → edition ≡ own
+mine own edition same compared taken = same-is edition own (sym compared ∙ taken)

@@ -5,6 +5,7 @@ use mathlib.Core.List.{List, [], _∷_, foldl-append}
 use Prim.Native.Nat.{ℕ, _+_, _≤_}
 use native.Mathlib.Omega.{arith}
 use lib.ListN.{length}
+use Rattle.base.specs.declared.Edition.{Edition}
 use Rattle.sheet.specs.declared.Lane.{Lane}
 use Rattle.sheet.specs.declared.Sheet.{Sheet}
 use Rattle.sheet.specs.Records.{nextOf}
@@ -13,23 +14,23 @@ use Rattle.sheet.specs.Sheets.{slotOf, laneAt, refusalsAt, countedOf, fu
 use Rattle.sheet.specs.Histories.{ownIn, ownOf, replayFrom, refusedWith}
 use Rattle.sheet.proofs.Offering.{frame-countable, HasSlot}
 use Rattle.sheet.proofs.Counted.{Grown, counted-own, counted-refusals}
-use Rattle.sheet.proofs.Running.{countAll, one-grown}
+use Rattle.sheet.proofs.Running.{countAll, AllOwn, one-grown}
 use Rattle.frame.specs.Frames.{Frame, frameOf}
 
 -- a lane is replayed by its own frames
-pub all-own : (k : ℕ) (role : Role) (fs : List Frame) (n : ℕ) (sheet : Sheet) → Grown n sheet → n + length fs ≤ fullSheet → laneAt (countAll sheet fs) k role ≡ replayFrom (laneAt sheet k role) (ownOf k role fs)
-all-own k role [] n sheet so room = refl
-all-own k role (f ∷ fs) n sheet so room =
-    all-own k role fs (n + 1) (countedOf sheet (frameOf f)) (one-grown n sheet so (omega arith) f) (omega arith)
-    ∙ ap (λ (l : Lane). replayFrom l (ownOf k role fs)) (counted-own n sheet so k role (frameOf f) (frame-countable f))
+pub all-own : (own : Edition) (k : ℕ) (role : Role) (fs : List Frame) → AllOwn own fs → (n : ℕ) (sheet : Sheet) → Grown own n sheet → n + length fs ≤ fullSheet → laneAt (countAll sheet fs) k role ≡ replayFrom (laneAt sheet k role) (ownOf k role fs)
+all-own own k role [] mine n sheet so room = refl
+all-own own k role (f ∷ fs) mine n sheet so room =
+    all-own own k role fs (mine .1) (n + 1) (countedOf sheet (frameOf f)) (one-grown own n sheet so (omega arith) f (mine .0)) (omega arith)
+    ∙ ap (λ (l : Lane). replayFrom l (ownOf k role fs)) (counted-own own n sheet so k role (frameOf f) (frame-countable own f (mine .0)))
     ∙ sym (foldl-append (λ r x. nextOf r (x .counter) (x .flips)) (laneAt sheet k role) (ownIn k role (frameOf f)) (ownOf k role fs))
 
 -- a count grows by the frames with its number
-pub all-refused : (number : ℕ) → HasSlot number → (fs : List Frame) (n : ℕ) (sheet : Sheet) → Grown n sheet → n + length fs ≤ fullSheet → refusalsAt (countAll sheet fs) (slotOf number) ≡ refusalsAt sheet (slotOf number) + refusedWith number fs
-all-refused number known [] n sheet so room = omega arith
-all-refused number known (f ∷ fs) n sheet so room =
+pub all-refused : (own : Edition) (number : ℕ) → HasSlot number → (fs : List Frame) → AllOwn own fs → (n : ℕ) (sheet : Sheet) → Grown own n sheet → n + length fs ≤ fullSheet → refusalsAt (countAll sheet fs) (slotOf number) ≡ refusalsAt sheet (slotOf number) + refusedWith number fs
+all-refused own number known [] mine n sheet so room = omega arith
+all-refused own number known (f ∷ fs) mine n sheet so room =
     omega (
       arith,
-      all-refused number known fs (n + 1) (countedOf sheet (frameOf f)) (one-grown n sheet so (omega arith) f) (omega arith),
-      counted-refusals n sheet so (omega arith) number known (frameOf f) (frame-countable f),
+      all-refused own number known fs (mine .1) (n + 1) (countedOf sheet (frameOf f)) (one-grown own n sheet so (omega arith) f (mine .0)) (omega arith),
+      counted-refusals own n sheet so (omega arith) number known (frameOf f) (frame-countable own f (mine .0)),
     )

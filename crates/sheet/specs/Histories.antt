@@ -5,6 +5,7 @@ use mathlib.Core.List.{List, [], _∷_, _++_, foldl}
 use Prim.Native.Nat.{ℕ, _+_, _<_}
 use lib.Dec.{eqb}
 use lib.ListN.{take}
+use Rattle.base.specs.declared.Edition.{Edition}
 use Rattle.header.specs.declared.Answer.{Answer}
 use Rattle.header.specs.declared.Answer.the-variants.{Accepted, Refused}
 use Rattle.frame.specs.Frames.{Frame, frameOf}
@@ -12,19 +13,24 @@ use Rattle.sheet.specs.declared.Lane.{Lane}
 use Rattle.sheet.specs.declared.Sheet.{Sheet}
 use Rattle.sheet.specs.Records.{silentLane, countLimit, nextOf}
 use Rattle.sheet.specs.Lanes.{Role, sentAs, recordOf}
-use Rattle.sheet.specs.Sheets.{refusalCounts, newSheet, laneAt, refusalsAt, fullSheet, offerOf}
+use Rattle.sheet.specs.Sheets.{refusalCounts, newSheet, laneAt, refusalsAt, fullSheet, sameEdition, editionOf, offerOf}
 
 -- a sheet after some frames, and the sheet grown from a new one
-abbrev pub runOf : Sheet → List Frame → Sheet
-runOf sheet [] = sheet
-runOf sheet (f ∷ fs) = runOf (offerOf sheet f .sheet) fs
+abbrev pub runOf : Edition → Sheet → List Frame → Sheet
+runOf own sheet [] = sheet
+runOf own sheet (f ∷ fs) = runOf own (offerOf own sheet f .sheet) fs
 
-abbrev pub sheetOf : List Frame → Sheet
-sheetOf history = runOf newSheet history
+abbrev pub sheetOf : Edition → List Frame → Sheet
+sheetOf own history = runOf own (newSheet own) history
+
+-- the frames of a history that are of the sheet's edition: any other "isn't in its total"
+abbrev pub ofEdition : Edition → List Frame → List Frame
+ofEdition own [] = []
+ofEdition own (f ∷ fs) = cond (sameEdition (editionOf f) own) (f ∷ ofEdition own fs) (ofEdition own fs)
 
 -- "a call refused with 17 offers nothing": the frames of a history that a sheet takes
-abbrev pub takenFrom : List Frame → List Frame
-takenFrom history = take fullSheet history
+abbrev pub takenFrom : Edition → List Frame → List Frame
+takenFrom own history = take fullSheet (ofEdition own history)
 
 -- THE LANES OF RECORD k
 -- whether an answer is that to an accepted frame of a lane

@@ -1,4 +1,5 @@
 pub mod Records
 pub mod Lanes
 pub mod Sheets
+pub mod Wide
 pub mod Histories

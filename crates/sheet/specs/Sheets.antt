@@ -1,16 +1,19 @@
--- The pass sheet, and a frame offered to it.
+-- The pass sheet, and a frame offered to it. "A sheet belongs to one edition", which is called its own. The definitions speak of lists of
+-- records of any length: a wide sheet, with 128, is one of these (`specs/Wide`).
 -- Assumes nothing.
-use mathlib.Core.Bool.{Bool, cond}
+use mathlib.Core.Bool.{Bool, true, false, cond, not}
 use mathlib.Core.List.{List, [], _∷_}
 use Prim.Native.Nat.{ℕ, suc, _+_}
 use lib.Dec.{leb, ltb}
 use lib.ListN.{length, getD, set, replicate}
+use Rattle.base.specs.declared.Edition.{Edition}
+use Rattle.base.specs.declared.Edition.the-variants.{Flown, Corrected}
 use Rattle.base.specs.Checks.{Check, check, first, refusal}
 use Rattle.base.specs.Lists.{sumTo, placeIn}
 use Rattle.header.specs.declared.Header.{Header}
 use Rattle.header.specs.declared.Answer.{Answer}
 use Rattle.header.specs.declared.Answer.the-variants.{Accepted, Refused}
-use Rattle.header.specs.Fields.{lastSource}
+use Rattle.header.specs.Fields.{lastSourceOf}
 use Rattle.header.specs.Reading.{repairedAnswer}
 use Rattle.header.specs.Patterns.{beside, patternsOf}
 use Rattle.frame.specs.Frames.{Frame, frameChecks}
@@ -22,9 +25,9 @@ use Rattle.sheet.specs.declared.Offered.{Offered}
 use Rattle.sheet.specs.Records.{addOf}
 use Rattle.sheet.specs.Lanes.{Role, laneOf, silent, sourceIn, heardIn, acceptedIn, displayIn}
 
--- "Eight records, one per SrcId": as many as there are sources that are not refused
-abbrev pub records : ℕ
-records = suc lastSource
+-- "Eight records, one per SrcId": as many as there are sources that are not refused; "eight records for flown, 128 for corrected"
+abbrev pub recordsOf : Edition → ℕ
+recordsOf own = suc (lastSourceOf own)
 
 -- "and a count for each of the refusals 1 to 8", 20 and 21: "The sheet counts both"
 abbrev pub counted : List ℕ
@@ -38,8 +41,8 @@ unfoldable pub slotOf : ℕ → ℕ
 slotOf number = placeIn counted number
 
 -- "A new sheet is the only reset."
-abbrev pub newSheet : Sheet
-newSheet = record { sources = replicate records silent; refusals = replicate refusalCounts 0 }
+abbrev pub newSheet : Edition → Sheet
+newSheet own = record { sources = replicate (recordsOf own) silent; refusals = replicate refusalCounts 0 }
 
 -- what stands on a sheet
 abbrev pub sourceAt : Sheet → ℕ → Source
@@ -56,56 +59,68 @@ unfoldable pub acceptOf : Sheet → Header → ℕ → Sheet
 acceptOf sheet h flips = record { sources = heardIn (sheet .sources) h flips; refusals = sheet .refusals }
 
 -- "A frame refused with 1 to 8", 20 or 21 "adds one to that refusal's count and touches no frame record." Any other number changes nothing.
-unfoldable pub refuseOf : Sheet → ℕ → Sheet
-refuseOf sheet number =
-    cond (ltb (slotOf number) refusalCounts)
-    (record {
-      sources = sheet .sources;
-      refusals = set (sheet .refusals) (slotOf number) (addOf (refusalsAt sheet (slotOf number)) 1);
-    })
-    sheet
+unfoldable pub countsAfter : List ℕ → ℕ → List ℕ
+countsAfter counts number = cond (ltb (slotOf number) refusalCounts) (set counts (slotOf number) (addOf (getD counts (slotOf number) 0) 1)) counts
+
+abbrev pub refuseOf : Sheet → ℕ → Sheet
+refuseOf sheet number = record { sources = sheet .sources; refusals = countsAfter (sheet .refusals) number }
 
 abbrev pub countedOf : Sheet → Answer → Sheet
 countedOf sheet (Accepted h flips) = acceptOf sheet h flips
 countedOf sheet (Refused why) = refuseOf sheet (why .number)
 
 -- "accepted over all sources plus refused over all numbers"
-unfoldable pub acceptedOf : Sheet → ℕ
-acceptedOf sheet = acceptedIn records (sheet .sources)
+unfoldable pub acceptedOf : Edition → Sheet → ℕ
+acceptedOf own sheet = acceptedIn (recordsOf own) (sheet .sources)
 
 unfoldable pub refusedOf : Sheet → ℕ
 refusedOf sheet = sumTo refusalCounts (λ k. refusalsAt sheet k)
 
-abbrev pub heardOf : Sheet → ℕ
-heardOf sheet = acceptedOf sheet + refusedOf sheet
+abbrev pub heardOf : Edition → Sheet → ℕ
+heardOf own sheet = acceptedOf own sheet + refusedOf sheet
 
 -- "it is full when that sum is 65,535 or more"
 abbrev pub fullSheet : ℕ
 fullSheet = 65535
 
-abbrev pub fullOf : Sheet → Bool
-fullOf sheet = leb fullSheet (heardOf sheet)
+abbrev pub fullOf : Edition → Sheet → Bool
+fullOf own sheet = leb fullSheet (heardOf own sheet)
 
--- THE PAPER'S TABLE, with the row that a sheet puts before the frame's
+-- whether two editions are the same
+abbrev pub sameEdition : Edition → Edition → Bool
+sameEdition Flown Flown = true
+sameEdition Flown Corrected = false
+sameEdition Corrected Flown = false
+sameEdition Corrected Corrected = true
+
+-- the edition that a frame is read under
+abbrev pub editionOf : Frame → Edition
+editionOf f = f .head .rules .edition
+
+-- THE PAPER'S TABLE, with the rows that a sheet puts before the frame's
 -- 17, "sheet full, checked before anything else, sheet unchanged (place 65,535)"
-abbrev pub sheetFull : Sheet → Check Answer
-sheetFull sheet = check (fullOf sheet) (Refused (refusal 17 fullSheet))
+abbrev pub sheetFull : Edition → Sheet → Check Answer
+sheetFull own sheet = check (fullOf own sheet) (Refused (refusal 17 fullSheet))
 
-abbrev pub offerChecks : Sheet → Frame → List (Check Answer)
-offerChecks sheet f = sheetFull sheet ∷ frameChecks f
+-- 22, "a frame offered to a sheet of the other edition, after 17 and before 20 (place: 0)"
+abbrev pub otherEdition : Edition → Frame → Check Answer
+otherEdition own f = check (not (sameEdition (editionOf f) own)) (Refused (refusal 22 0))
+
+abbrev pub offerChecks : Edition → Sheet → Frame → List (Check Answer)
+offerChecks own sheet f = sheetFull own sheet ∷ otherEdition own f ∷ frameChecks f
 
 -- the answer to a frame that is offered
-unfoldable pub offerAnswer : Sheet → Frame → Answer
-offerAnswer sheet f = first (repairedAnswer (f .head)) (offerChecks sheet f)
+unfoldable pub offerAnswer : Edition → Sheet → Frame → Answer
+offerAnswer own sheet f = first (repairedAnswer (f .head)) (offerChecks own sheet f)
 
 -- an answer with patterns beside it, and the sheet that has counted it
 abbrev pub takenOf : Sheet → List ℕ → Answer → Offered
 takenOf sheet patterns answer = record { read = beside patterns answer; sheet = countedOf sheet answer }
 
 -- a frame offered: the answer, the patterns of its words, and the sheet after it
-abbrev pub offerOf : Sheet → Frame → Offered
-offerOf sheet f = takenOf sheet (patternsOf (f .head)) (offerAnswer sheet f)
+abbrev pub offerOf : Edition → Sheet → Frame → Offered
+offerOf own sheet f = takenOf sheet (patternsOf (f .head)) (offerAnswer own sheet f)
 
 -- a source's numbers for display
-abbrev pub displayOf : Sheet → ℕ → Display
-displayOf sheet source = displayIn records (sheet .sources) source
+abbrev pub displayOf : Edition → Sheet → ℕ → Display
+displayOf own sheet source = displayIn (recordsOf own) (sheet .sources) source

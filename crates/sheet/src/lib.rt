@@ -1,12 +1,17 @@
 // The pass sheet: a record of two lanes for each source, and a count for each refusal of a frame. A new sheet is the only reset.
+// A sheet belongs to one edition: `Sheet` to the flown one, `WideSheet` to the corrected one.
+mod wide;
+
 use air::WORD_COUNT;
 use base::BEYOND_REPAIR;
 use base::CRC5_DIFFERS;
 use base::CRC13_DIFFERS;
+use base::Edition;
 use base::FLIPS_ABOVE_LIMIT;
 use base::LIMIT_ABOVE_42;
 use base::NO_BIT;
 use base::NOT_210_LONG;
+use base::OTHER_EDITION;
 use base::OTHER_LENGTH;
 use base::Refusal;
 use base::SHEET_FULL;
@@ -16,17 +21,31 @@ use header::Answer;
 use header::Header;
 use header::Read;
 use header::Rules;
+pub use wide::WideOffered;
+pub use wide::WideSheet;
+pub use wide::accepted_wide;
+pub use wide::display_of_wide;
+pub use wide::full_wide;
+pub use wide::heard_wide;
+pub use wide::new_wide_sheet;
+pub use wide::offer_wide;
+pub use wide::refused_wide;
 use word::table::TABLE_ROWS;
 ghost use mathlib.Core.Path.{_≡_};
 ghost use Prim.Native.Nat.{_*_, _<_, _≤_};
+ghost use lib.ListN.{getD, replicate};
+ghost use Rattle.base.specs.Checks.{refusal};
+ghost use Rattle.base.specs.Lists.{sumTo};
+ghost use Rattle.air.specs.Air.{wordCount};
 ghost use Rattle.word.specs.Repairs.{syndromes};
 ghost use Rattle.sheet.specs.Records.{countLimit, addOf, missedOf, tallyOf, nextOf};
 ghost use Rattle.sheet.specs.Lanes.{lanes, silent, hearOf, framesOf, repairedOf, summedOf, recordOf};
+ghost use Rattle.header.specs.Patterns.{beside};
 ghost use Rattle.frame.specs.Frames.{frame};
-ghost use Rattle.sheet.specs.Sheets.{records, refusalCounts, slotOf, newSheet, acceptOf, refuseOf, acceptedOf, refusedOf, heardOf, fullSheet, fullOf, offerOf, displayOf};
+ghost use Rattle.sheet.specs.Sheets.{recordsOf, refusalCounts, slotOf, newSheet, acceptOf, countsAfter, sameEdition, acceptedOf, refusedOf, heardOf, fullSheet, fullOf, offerOf, displayOf};
 
-// The records: one for each SrcId that is not refused.
-pub const RECORDS: usize = header::LAST_SOURCE as usize + 1;
+// The records of a sheet of the flown edition: one for each SrcId that is not refused.
+pub const RECORDS: usize = header::LAST_FLOWN_SOURCE as usize + 1;
 
 // The refusals that are counted, in the order of their counts.
 pub const REFUSAL_COUNTS: usize = 10;
@@ -74,7 +93,7 @@ pub struct Display {
     pub repaired: u64,
 }
 
-// A record for each SrcId; and in `refusals[k]` how many frames were refused with COUNTED[k].
+// A record for each SrcId of the flown edition; and in `refusals[k]` how many frames were refused with COUNTED[k].
 pub struct Sheet {
     pub sources: [Source; RECORDS],
     pub refusals: [u32; REFUSAL_COUNTS],
@@ -112,7 +131,7 @@ fn never_heard() -> Source
 
 // A sheet that was offered nothing.
 pub fn new_sheet() -> Sheet
-    ensures { λ r. ⌜ r ≡ newSheet ⌝ }
+    ensures { λ r. ⌜ r ≡ newSheet Edition.Flown ⌝ }
 {
     let source = never_heard();
     Sheet {
@@ -190,7 +209,7 @@ fn hear(source: Source, header: Header, flips: u32) -> Source
 
 // The sheet after an accepted frame.
 fn accept(sheet: Sheet, header: Header, flips: u32) -> Sheet
-    requires { ⌜ recordOf header < records ⌝ }
+    requires { ⌜ recordOf header < recordsOf Edition.Flown ⌝ }
     ensures { λ r. ⌜ r ≡ acceptOf sheet header flips ⌝ }
 {
     let mut after = sheet;
@@ -215,17 +234,16 @@ fn slot(number: u8) -> usize
     k
 }
 
-// The sheet after a frame that was refused with a number. Where the number is not counted, it stays as it is.
-fn refuse(sheet: Sheet, number: u8) -> Sheet
-    ensures { λ r. ⌜ r ≡ refuseOf sheet number ⌝ }
+// The counts of refusals after a frame that was refused with a number. Where the number is not counted, they stay as they are.
+fn refuse(counts: [u32; REFUSAL_COUNTS], number: u8) -> [u32; REFUSAL_COUNTS]
+    ensures { λ r. ⌜ r ≡ countsAfter counts number ⌝ }
 {
     let k = slot(number);
     if REFUSAL_COUNTS <= k {
-        return sheet;
+        return counts;
     }
-    let mut after = sheet;
-    let changed = add(after.refusals[k], 1);
-    after.refusals[k] = changed;
+    let mut after = counts;
+    after[k] = add(counts[k], 1);
     after
 }
 
@@ -260,7 +278,7 @@ fn summed(source: Source) -> Display
 
 // The numbers of any source. One without a record has those of a source that was never heard.
 pub fn display_of(sheet: Sheet, source: u8) -> Display
-    ensures { λ r. ⌜ r ≡ displayOf sheet source ⌝ }
+    ensures { λ r. ⌜ r ≡ displayOf Edition.Flown sheet source ⌝ }
 {
     let k = source as usize;
     if RECORDS <= k {
@@ -272,8 +290,8 @@ pub fn display_of(sheet: Sheet, source: u8) -> Display
 
 // Frames accepted over all sources.
 pub fn accepted(sheet: Sheet) -> u64
-    ensures { λ r. ⌜ r ≡ acceptedOf sheet ⌝ }
-    ensures { λ r. ⌜ r ≤ records * (lanes * countLimit) ⌝ }
+    ensures { λ r. ⌜ r ≡ acceptedOf Edition.Flown sheet ⌝ }
+    ensures { λ r. ⌜ r ≤ recordsOf Edition.Flown * (lanes * countLimit) ⌝ }
 {
     let mut sum: u64 = 0;
     let mut k = 0;
@@ -285,36 +303,72 @@ pub fn accepted(sheet: Sheet) -> u64
     sum
 }
 
-// Frames refused over all numbers.
-pub fn refused(sheet: Sheet) -> u64
-    ensures { λ r. ⌜ r ≡ refusedOf sheet ⌝ }
+// The sum of the counts of refusals.
+fn total(counts: [u32; REFUSAL_COUNTS]) -> u64
+    ensures { λ r. ⌜ r ≡ sumTo refusalCounts (λ k. getD counts k 0) ⌝ }
     ensures { λ r. ⌜ r ≤ refusalCounts * countLimit ⌝ }
 {
     let mut sum: u64 = 0;
     let mut k = 0;
     while k < REFUSAL_COUNTS {
-        sum += sheet.refusals[k] as u64;
+        sum += counts[k] as u64;
         k += 1;
     }
     sum
 }
 
+// Frames refused over all numbers.
+pub fn refused(sheet: Sheet) -> u64
+    ensures { λ r. ⌜ r ≡ refusedOf sheet ⌝ }
+    ensures { λ r. ⌜ r ≤ refusalCounts * countLimit ⌝ }
+{
+    let counts = sheet.refusals;
+    total(counts)
+}
+
 // Frames offered so far.
 pub fn heard(sheet: Sheet) -> u64
-    ensures { λ r. ⌜ r ≡ heardOf sheet ⌝ }
+    ensures { λ r. ⌜ r ≡ heardOf Edition.Flown sheet ⌝ }
 {
     accepted(sheet) + refused(sheet)
 }
 
 // Whether the sheet takes no further frame.
 pub fn full(sheet: Sheet) -> bool
-    ensures { λ r. ⌜ r ≡ fullOf sheet ⌝ }
+    ensures { λ r. ⌜ r ≡ fullOf Edition.Flown sheet ⌝ }
 {
     FULL <= heard(sheet)
 }
 
-// A frame offered to a sheet that is not full, by a lent copy of the syndrome table: the frame's own answer, counted.
-pub fn take_in(
+// Whether two editions are the same.
+fn same(a: Edition, b: Edition) -> bool
+    ensures { λ r. ⌜ r ≡ sameEdition a b ⌝ }
+{
+    match a {
+        Edition::Flown => match b {
+            Edition::Flown => true,
+            Edition::Corrected => false,
+        },
+        Edition::Corrected => match b {
+            Edition::Flown => false,
+            Edition::Corrected => true,
+        },
+    }
+}
+
+// A refusal of the sheet itself, with no patterns.
+fn not_taken(number: u8, place: usize) -> Read
+    ensures { λ r. ⌜ r ≡ beside (replicate wordCount 0) (Answer.Refused (refusal number place)) ⌝ }
+{
+    Read {
+        answer: Answer::Refused(Refusal { number, place }),
+        patterns: [0; WORD_COUNT],
+    }
+}
+
+// A frame of the sheet's edition offered to a sheet that is not full, by a lent copy of the syndrome table: the frame's own answer,
+// counted.
+fn take_in(
     table: &[u16; TABLE_ROWS],
     sheet: Sheet,
     rules: Rules,
@@ -322,8 +376,9 @@ pub fn take_in(
     payload: &[u8],
 ) -> Offered
     requires { ⌜ now table ≡ syndromes ⌝ }
-    requires { ⌜ heardOf sheet < fullSheet ⌝ }
-    ensures { λ r. ⌜ r ≡ offerOf sheet (frame rules (now (air .entry)) (now (payload .entry))) ⌝ }
+    requires { ⌜ heardOf Edition.Flown sheet < fullSheet ⌝ }
+    requires { ⌜ rules .edition ≡ Edition.Flown ⌝ }
+    ensures { λ r. ⌜ r ≡ offerOf Edition.Flown sheet (frame rules (now (air .entry)) (now (payload .entry))) ⌝ }
 {
     let read = frame::read_frame_in(table, rules, air, payload);
     let answer = read.answer;
@@ -333,26 +388,29 @@ pub fn take_in(
             Offered { read, sheet: after }
         }
         Answer::Refused(why) => {
-            let after = refuse(sheet, why.number);
+            let mut after = sheet;
+            let counts = after.refusals;
+            let changed = refuse(counts, why.number);
+            after.refusals = changed;
             Offered { read, sheet: after }
         }
     }
 }
 
-// A frame offered to any sheet. A full sheet refuses it with 17 and stays as it is; else the frame has its own answer, and the
-// sheet has counted it.
+// A frame offered to any sheet. A full sheet refuses it with 17, and a frame of the other edition is refused with 22; the sheet stays as
+// it is then. Else the frame has its own answer, and the sheet has counted it.
 pub fn offer(sheet: Sheet, rules: Rules, air: &[u8], payload: &[u8]) -> Offered
-    ensures { λ r. ⌜ r ≡ offerOf sheet (frame rules (now (air .entry)) (now (payload .entry))) ⌝ }
+    ensures { λ r. ⌜ r ≡ offerOf Edition.Flown sheet (frame rules (now (air .entry)) (now (payload .entry))) ⌝ }
 {
     if full(sheet) {
-        let answer = Answer::Refused(Refusal {
-            number: SHEET_FULL,
-            place: FULL as usize,
-        });
-        let patterns = [0u16; WORD_COUNT];
-        let read = Read { answer, patterns };
+        let read = not_taken(SHEET_FULL, FULL as usize);
         return Offered { read, sheet };
     }
-    let table = word::table::whole();
-    take_in(&table, sheet, rules, air, payload)
+    let edition = rules.edition;
+    if same(edition, Edition::Flown) {
+        let table = word::table::whole();
+        return take_in(&table, sheet, rules, air, payload);
+    }
+    let read = not_taken(OTHER_EDITION, 0);
+    Offered { read, sheet }
 }

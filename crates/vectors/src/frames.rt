@@ -70,8 +70,10 @@ pub fn put_read(reply: &mut Reply, read: Read) {
 
 // The rules at the start of a record.
 pub fn rules_of(record: &Record) -> Rules {
+    let edition = numbers::edition_of(record);
     Rules {
-        limit: numbers::four_at(record, 0) as u32,
+        edition,
+        limit: numbers::four_at(record, layout::EDITION) as u32,
     }
 }
 
@@ -89,20 +91,20 @@ pub fn frame_reply(record: &Record, reply: &mut Reply) {
 
 fn fields_of(record: &Record) -> Fields {
     Fields {
-        src_id: record[0],
-        dst_id: record[1],
-        fr_cnt_tx: record[2],
-        fr_cnt_rx: record[3],
-        snr: record[4],
-        ai_type_src: record[5],
-        ai_type_dst: record[6],
-        dfc_id: record[7],
-        caller: record[8],
-        arq: record[9],
-        pdu_type_id: record[10],
-        bch_rq: record[11],
-        hailing: record[12],
-        ud_fl1: record[13],
+        src_id: record[layout::EDITION],
+        dst_id: record[layout::EDITION + 1],
+        fr_cnt_tx: record[layout::EDITION + 2],
+        fr_cnt_rx: record[layout::EDITION + 3],
+        snr: record[layout::EDITION + 4],
+        ai_type_src: record[layout::EDITION + 5],
+        ai_type_dst: record[layout::EDITION + 6],
+        dfc_id: record[layout::EDITION + 7],
+        caller: record[layout::EDITION + 8],
+        arq: record[layout::EDITION + 9],
+        pdu_type_id: record[layout::EDITION + 10],
+        bch_rq: record[layout::EDITION + 11],
+        hailing: record[layout::EDITION + 12],
+        ud_fl1: record[layout::EDITION + 13],
     }
 }
 
@@ -114,7 +116,7 @@ fn write_at(record: &Record, reply: &mut [u8], at: usize, room: usize) -> Writte
     let payload = numbers::payload_at(record, layout::WRITES_RULE, &mut space);
     let out = &mut reply[at..at + room];
     numbers::fill(out, room, HELD, 0);
-    header::write_header(fields_of(record), payload, out)
+    header::write_header(numbers::edition_of(record), fields_of(record), payload, out)
 }
 
 pub fn write_reply(record: &Record, reply: &mut Reply) {

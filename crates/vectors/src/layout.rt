@@ -27,6 +27,8 @@ pub const SHEETS: u8 = 10;
 
 pub const SOURCES: u8 = 11;
 
+pub const WIDES: u8 = 12;
+
 // Room for every record and for every reply. The longest are one of `crc13` and one of `sheets`.
 pub const RECORD_BYTES: usize = LENGTH + PAYLOAD_ROOM;
 
@@ -39,8 +41,11 @@ pub type Reply = [u8; REPLY_BYTES];
 // A length, before the bytes that it counts.
 pub const LENGTH: usize = 2;
 
-// How a frame is read, at the start of `headers`, `frames` and `sheets`: the limit.
-pub const RULES: usize = 4;
+// An edition is a byte: 0 is flown, all else corrected.
+pub const EDITION: usize = 1;
+
+// How a frame is read, at the start of `headers`, `frames`, `sheets` and `wides`: edition and limit.
+pub const RULES: usize = EDITION + 4;
 
 // The most bytes of a header slice, of a payload of `crc13` or of a payload rule, and of a payload of `pages`.
 pub const HEADER_ROOM: usize = 256;
@@ -63,8 +68,8 @@ pub const FRAMES_RULE: usize = RULES + LENGTH + HEADER_ROOM;
 
 pub const SHEETS_RULE: usize = SHEETS_HEADER + 210;
 
-// The room of an output, after 14 fields in `writes` and after 17 rows in `rows`.
-pub const WRITES_ROOM: usize = 14;
+// The room of an output, after an edition and 14 fields in `writes` and after 17 rows in `rows`.
+pub const WRITES_ROOM: usize = EDITION + 14;
 
 pub const ROWS_ROOM: usize = 34;
 
@@ -89,11 +94,22 @@ pub const REFUSALS: usize = 8 * SOURCE;
 
 pub const COUNT: usize = 4;
 
-const SHEET: usize = REFUSALS + 10 * COUNT;
+const COUNTS: usize = 10 * COUNT;
+
+const SHEET: usize = REFUSALS + COUNTS;
 
 pub const SHEETS_HEADER: usize = RULES + SHEET;
 
 pub const SOURCES_NUMBER: usize = SHEET;
+
+// In a record of `wides`, behind the rules: the number of the one source that was heard, its lanes, the counts, and the header.
+pub const WIDES_LANES: usize = RULES + 1;
+
+pub const WIDES_REFUSALS: usize = WIDES_LANES + SOURCE;
+
+pub const WIDES_HEADER: usize = WIDES_REFUSALS + COUNTS;
+
+pub const WIDES_RULE: usize = WIDES_HEADER + 210;
 
 // An answer is a refusal's number, or 0, and its place. The values follow.
 pub const NUMBER: usize = 0;
@@ -107,6 +123,14 @@ pub const VALUES: usize = 9;
 pub const PATTERNS: usize = VALUES + 14 + 2 + 2 + 1 + 4;
 
 pub const SHEET_AFTER: usize = PATTERNS + 14 * 2;
+
+// The counts of a sheet in a reply.
+pub const COUNTS_AFTER: usize = SHEET_AFTER + REFUSALS;
+
+// In a reply of `wides`: the number of a source, its lanes, the counts, and how many frames were heard.
+pub const WIDE_REFUSALS: usize = SHEET_AFTER + 1 + SOURCE;
+
+pub const WIDE_HEARD: usize = WIDE_REFUSALS + COUNTS;
 
 // What repair makes of a number: whether there is a word, the word, its flip pattern.
 pub const REPAIRED: usize = 1 + 2 + 2;
@@ -123,7 +147,7 @@ pub fn sizes_of(kind: u8) -> Sizes
         WORDS => Sizes(2, 2 + 2 * REPAIRED),
         ENCODE => Sizes(1, 1 + 2),
         CRC13 => Sizes(RECORD_BYTES, 2 + 2),
-        CRC5 => Sizes(65, 1),
+        CRC5 => Sizes(EDITION + 65, 1),
         HEADERS => Sizes(FRAMES_RULE, SHEET_AFTER),
         WRITES => Sizes(WRITES_RULE + RULE, VALUES + 2 + AIR_ROOM),
         FRAMES => Sizes(FRAMES_RULE + RULE, SHEET_AFTER),
@@ -135,6 +159,7 @@ pub fn sizes_of(kind: u8) -> Sizes
         SHOWN => Sizes(RAW + 2, VALUES + 8),
         SHEETS => Sizes(SHEETS_RULE + RULE, SHEET_AFTER + SHEET),
         SOURCES => Sizes(SOURCES_NUMBER + 1, 2 * LANE + 8 + 8),
+        WIDES => Sizes(WIDES_RULE + RULE, WIDE_HEARD + 8),
         _ => Sizes(0, 0),
     }
 }

@@ -12,6 +12,7 @@ mod layout;
 mod numbers;
 mod pages;
 mod sheets;
+mod wides;
 mod words;
 
 // Puts the reply to a record into a reply of zeros.
@@ -29,6 +30,7 @@ fn put_reply(kind: u8, record: &Record, reply: &mut Reply) {
         layout::SHOWN => pages::shown_reply(record, reply),
         layout::SHEETS => sheets::sheet_reply(record, reply),
         layout::SOURCES => sheets::source_reply(record, reply),
+        layout::WIDES => wides::wide_reply(record, reply),
         _ => {}
     }
 }

@@ -1,6 +1,8 @@
 // Numbers out of a record and into a reply: unsigned, high byte first.
 use crate::layout;
+use crate::layout::Record;
 use crate::layout::Reply;
+use base::Edition;
 use base::Refusal;
 use base::Written;
 ghost use mathlib.Core.Path.{_≡_};
@@ -37,6 +39,14 @@ pub fn eight_at(bytes: &[u8], at: usize) -> u64
     ensures { λ r. ⌜ r ≡ eightAt (now (bytes .entry)) at ⌝ }
 {
     four_at(bytes, at) * 0x1_0000_0000 + four_at(bytes, at + 4)
+}
+
+// The edition at the start of a record.
+pub fn edition_of(record: &Record) -> Edition {
+    if record[0] == 0 {
+        return Edition::Flown;
+    }
+    Edition::Corrected
 }
 
 // Sixteen bits in two's complement.

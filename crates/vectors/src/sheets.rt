@@ -10,7 +10,7 @@ use sheet::Source;
 ghost use mathlib.Core.Path.{_≡_};
 ghost use Prim.Native.Nat.{_+_, _<_, _≤_};
 
-fn lane_at(record: &Record, at: usize) -> Lane
+pub fn lane_at(record: &Record, at: usize) -> Lane
     requires { do ⌜ at + (← ⟦layout::LANE⟧) ≤ (← ⟦layout::RECORD_BYTES⟧) ⌝ }
 {
     Lane {
@@ -35,14 +35,6 @@ fn source_at(record: &Record, sheet: usize, k: usize) -> Source
     }
 }
 
-fn refusals_at(record: &Record, sheet: usize, k: usize) -> u32
-    requires { do ⌜ sheet ≤ (← ⟦layout::RULES⟧) ⌝ }
-    requires { ⌜ k < 10 ⌝ }
-{
-    let at = sheet + layout::REFUSALS + k * layout::COUNT;
-    numbers::four_at(record, at) as u32
-}
-
 // The sheet that starts at a place, which is 0 or behind the rules: its sources, and its counts.
 fn sources_of(record: &Record, sheet: usize) -> [Source; 8]
     requires { do ⌜ sheet ≤ (← ⟦layout::RULES⟧) ⌝ }
@@ -59,20 +51,28 @@ fn sources_of(record: &Record, sheet: usize) -> [Source; 8]
     ]
 }
 
-fn refusals_of(record: &Record, sheet: usize) -> [u32; 10]
-    requires { do ⌜ sheet ≤ (← ⟦layout::RULES⟧) ⌝ }
+// The count k of those that start at a place.
+fn count_at(record: &Record, counts: usize, k: usize) -> u32
+    requires { do ⌜ counts ≤ (← ⟦layout::SHEETS_HEADER⟧) ⌝ }
+    requires { ⌜ k < 10 ⌝ }
+{
+    numbers::four_at(record, counts + k * layout::COUNT) as u32
+}
+
+pub fn counts_of(record: &Record, counts: usize) -> [u32; 10]
+    requires { do ⌜ counts ≤ (← ⟦layout::SHEETS_HEADER⟧) ⌝ }
 {
     [
-        refusals_at(record, sheet, 0),
-        refusals_at(record, sheet, 1),
-        refusals_at(record, sheet, 2),
-        refusals_at(record, sheet, 3),
-        refusals_at(record, sheet, 4),
-        refusals_at(record, sheet, 5),
-        refusals_at(record, sheet, 6),
-        refusals_at(record, sheet, 7),
-        refusals_at(record, sheet, 8),
-        refusals_at(record, sheet, 9),
+        count_at(record, counts, 0),
+        count_at(record, counts, 1),
+        count_at(record, counts, 2),
+        count_at(record, counts, 3),
+        count_at(record, counts, 4),
+        count_at(record, counts, 5),
+        count_at(record, counts, 6),
+        count_at(record, counts, 7),
+        count_at(record, counts, 8),
+        count_at(record, counts, 9),
     ]
 }
 
@@ -80,12 +80,12 @@ fn sheet_of(record: &Record, sheet: usize) -> Sheet
     requires { do ⌜ sheet ≤ (← ⟦layout::RULES⟧) ⌝ }
 {
     let sources = sources_of(record, sheet);
-    let refusals = refusals_of(record, sheet);
+    let refusals = counts_of(record, sheet + layout::REFUSALS);
     Sheet { sources, refusals }
 }
 
 // Puts a lane, and answers the place after it. The last counter is 0 where the lane was not heard.
-fn put_lane(reply: &mut Reply, at: usize, lane: Lane) -> usize
+pub fn put_lane(reply: &mut Reply, at: usize, lane: Lane) -> usize
     requires { do ⌜ at + (← ⟦layout::LANE⟧) ≤ (← ⟦layout::REPLY_BYTES⟧) ⌝ }
     ensures { λ r. do ⌜ r ≡ at + (← ⟦layout::LANE⟧ .entry) ⌝ }
 {
@@ -109,11 +109,27 @@ fn put_source(reply: &mut Reply, k: usize, source: Source)
     put_lane(reply, next, responder);
 }
 
-fn put_refusals(reply: &mut Reply, k: usize, count: u32)
+// Puts the count k of those that start at a place.
+fn put_count(reply: &mut Reply, counts: usize, k: usize, count: u32)
+    requires { do ⌜ counts ≤ (← ⟦layout::COUNTS_AFTER⟧) ⌝ }
     requires { ⌜ k < 10 ⌝ }
 {
-    let at = layout::SHEET_AFTER + layout::REFUSALS + k * layout::COUNT;
-    numbers::put_four(reply, at, count);
+    numbers::put_four(reply, counts + k * layout::COUNT, count);
+}
+
+pub fn put_counts(reply: &mut Reply, at: usize, counts: [u32; 10])
+    requires { do ⌜ at ≤ (← ⟦layout::COUNTS_AFTER⟧) ⌝ }
+{
+    put_count(reply, at, 0, counts[0]);
+    put_count(reply, at, 1, counts[1]);
+    put_count(reply, at, 2, counts[2]);
+    put_count(reply, at, 3, counts[3]);
+    put_count(reply, at, 4, counts[4]);
+    put_count(reply, at, 5, counts[5]);
+    put_count(reply, at, 6, counts[6]);
+    put_count(reply, at, 7, counts[7]);
+    put_count(reply, at, 8, counts[8]);
+    put_count(reply, at, 9, counts[9]);
 }
 
 fn put_sheet(reply: &mut Reply, sheet: Sheet) {
@@ -127,16 +143,7 @@ fn put_sheet(reply: &mut Reply, sheet: Sheet) {
     put_source(reply, 6, sources[6]);
     put_source(reply, 7, sources[7]);
     let refusals = sheet.refusals;
-    put_refusals(reply, 0, refusals[0]);
-    put_refusals(reply, 1, refusals[1]);
-    put_refusals(reply, 2, refusals[2]);
-    put_refusals(reply, 3, refusals[3]);
-    put_refusals(reply, 4, refusals[4]);
-    put_refusals(reply, 5, refusals[5]);
-    put_refusals(reply, 6, refusals[6]);
-    put_refusals(reply, 7, refusals[7]);
-    put_refusals(reply, 8, refusals[8]);
-    put_refusals(reply, 9, refusals[9]);
+    put_counts(reply, layout::COUNTS_AFTER, refusals);
 }
 
 pub fn sheet_reply(record: &Record, reply: &mut Reply) {

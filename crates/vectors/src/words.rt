@@ -65,9 +65,10 @@ fn fifteen_at(record: &Record, at: usize) -> u64
 
 // Header bits 0 to 29, and 30 to 64 with five zeros in the place of CRC5.
 pub fn crc5_reply(record: &Record, reply: &mut Reply) {
-    let hi = fifteen_at(record, 0) * 0x8000 + fifteen_at(record, 15);
-    let lo = fifteen_at(record, 30) * 0x200_0000
-        + fifteen_at(record, 45) * 0x400
-        + five_at(record, 60) * 0x20;
-    reply[0] = crc::crc5(hi, lo);
+    let at = layout::EDITION;
+    let hi = fifteen_at(record, at) * 0x8000 + fifteen_at(record, at + 15);
+    let lo = fifteen_at(record, at + 30) * 0x200_0000
+        + fifteen_at(record, at + 45) * 0x400
+        + five_at(record, at + 60) * 0x20;
+    reply[0] = crc::crc5(numbers::edition_of(record), hi, lo);
 }

@@ -1,11 +1,12 @@
 //! Frames in records: how they are read, their header slices and their payloads.
 
-use super::sheets::put_sheet;
+use super::bytes::{put, Bytes};
+use super::sheets::{put_sheet, Wide};
 use super::Kind;
 use crate::air::{AIR_BITS, WORDS};
 use crate::header::{largest, Field, Header, GIVEN};
 use crate::rng::Rng;
-use crate::rules::{Rules, LARGEST_LIMIT};
+use crate::rules::{Edition, Rules, LARGEST_LIMIT};
 use crate::sample::{flip_pattern, flip_some, seal};
 use crate::sheet::Sheet;
 
@@ -15,10 +16,40 @@ pub(super) const HEADER_ROOM: usize = 256;
 /// The longest payload of a payload rule.
 pub(super) const PAYLOAD_ROOM: usize = 2_047;
 
-/// The rules that refuse no frame for its flips.
-pub(super) const WIDEST: Rules = Rules {
-    limit: LARGEST_LIMIT,
-};
+/// The rules of an edition that refuse no frame for its flips.
+pub(super) const fn widest(edition: Edition) -> Rules {
+    Rules {
+        edition,
+        limit: LARGEST_LIMIT,
+    }
+}
+
+/// Puts an edition in one byte.
+pub(super) fn put_edition(edition: Edition, out: &mut Vec<u8>) {
+    put(out, 1, edition as u8);
+}
+
+/// The edition of a byte: 0 is flown, and all others are corrected.
+pub(super) fn take_edition(input: &mut Bytes) -> Edition {
+    match input.u8() {
+        0 => Edition::Flown,
+        _ => Edition::Corrected,
+    }
+}
+
+/// Puts the rules that a frame is read by.
+pub(super) fn put_rules(rules: Rules, out: &mut Vec<u8>) {
+    put_edition(rules.edition, out);
+    put(out, 4, rules.limit);
+}
+
+/// The rules that a frame is read by.
+pub(super) fn take_rules(input: &mut Bytes) -> Rules {
+    Rules {
+        edition: take_edition(input),
+        limit: input.u32(),
+    }
+}
 
 /// A word pattern that is beyond repair from every valid word: it is at distance 4 of word 0, and within 3 of none.
 pub(super) const BEYOND: u16 = 0x000F;
@@ -76,18 +107,21 @@ pub(super) struct Frame {
 }
 
 impl Frame {
-    /// The input of a kind with this frame, which a new sheet is offered in `sheets`; a record of that kind has 210 header bytes.
+    /// The input of a kind with this frame, which a new sheet is offered in `sheets` and `wides`; records of these kinds have
+    /// 210 header bytes.
     pub fn input(&self, kind: Kind) -> Option<Vec<u8>> {
         match kind {
             Kind::Headers => Some(self.header_input()),
             Kind::Frames => Some(self.frame_input()),
-            Kind::Sheets => self.sheet_input(&Sheet::new()),
+            Kind::Sheets => self.sheet_input(&Sheet::new(Edition::Flown)),
+            Kind::Wides => self.wide_input(&Wide::new()),
             _ => None,
         }
     }
 
     pub fn header_input(&self) -> Vec<u8> {
-        let mut record = rules_bytes(self.rules);
+        let mut record = Vec::new();
+        put_rules(self.rules, &mut record);
         record.extend(sized(&self.slice, HEADER_ROOM));
         record
     }
@@ -101,25 +135,33 @@ impl Frame {
     /// The frame offered to this sheet; none where its slice is not 210 long.
     pub fn sheet_input(&self, sheet: &Sheet) -> Option<Vec<u8>> {
         let air = <&[u8; AIR_BITS]>::try_from(self.slice.as_slice()).ok()?;
-        let mut record = rules_bytes(self.rules);
+        let mut record = Vec::new();
+        put_rules(self.rules, &mut record);
         put_sheet(sheet, &mut record);
+        record.extend(air);
+        record.extend(self.rule.bytes());
+        Some(record)
+    }
+
+    /// The frame offered to this corrected sheet; none where its slice is not 210 long.
+    pub fn wide_input(&self, wide: &Wide) -> Option<Vec<u8>> {
+        let air = <&[u8; AIR_BITS]>::try_from(self.slice.as_slice()).ok()?;
+        let mut record = Vec::new();
+        put_rules(self.rules, &mut record);
+        wide.put(&mut record);
         record.extend(air);
         record.extend(self.rule.bytes());
         Some(record)
     }
 }
 
-fn rules_bytes(rules: Rules) -> Vec<u8> {
-    rules.limit.to_be_bytes().to_vec()
-}
-
 /// A header in range with the payload's length and checksum, and a right CRC5.
-pub(super) fn fresh_header(rng: &mut Rng, payload: &[u8]) -> Header {
+pub(super) fn fresh_header(rng: &mut Rng, edition: Edition, payload: &[u8]) -> Header {
     let mut header = Header::default();
     for field in 0..GIVEN {
-        header.values[field] = rng.within(0..=u32::from(largest(field))) as u16;
+        header.values[field] = rng.within(0..=u32::from(largest(edition, field))) as u16;
     }
-    seal(&mut header, payload);
+    seal(edition, &mut header, payload);
     header
 }
 
@@ -136,7 +178,7 @@ pub(super) fn light_damage(rng: &mut Rng, air: &mut [u8; AIR_BITS]) {
 /// A frame with these flip patterns, of a header that would be accepted without a limit.
 pub(super) fn damaged(rng: &mut Rng, rules: Rules, patterns: &[u16; WORDS]) -> Frame {
     let rule = PayloadRule::short(rng);
-    let mut air = fresh_header(rng, &rule.payload()).to_air();
+    let mut air = fresh_header(rng, rules.edition, &rule.payload()).to_air();
     for (word, &pattern) in patterns.iter().enumerate() {
         flip_pattern(&mut air, word, pattern);
     }
@@ -144,11 +186,11 @@ pub(super) fn damaged(rng: &mut Rng, rules: Rules, patterns: &[u16; WORDS]) -> F
     Frame { rules, slice, rule }
 }
 
-/// A frame that is refused with this number of 1 to 8, unless the limit refuses it before. Every word is damaged, and
+/// A frame that is refused with this number of 1 to 8, unless the limit refuses it before or the edition does not make check 5. Every word is damaged, and
 /// within repair but for one of refusal 3: there would be patterns to give.
 pub(super) fn refused(rng: &mut Rng, rules: Rules, number: u8) -> Frame {
     let mut rule = PayloadRule::short(rng);
-    let mut header = fresh_header(rng, &rule.payload());
+    let mut header = fresh_header(rng, rules.edition, &rule.payload());
     match number {
         5 => header[Field::SrcId] = rng.within(8..=127) as u16,
         6 => header[Field::AiTypeSrc] = rng.within(4..=15) as u16,
@@ -156,7 +198,7 @@ pub(super) fn refused(rng: &mut Rng, rules: Rules, number: u8) -> Frame {
         8 => header[Field::Crc13] ^= rng.within(1..=0x1FFF) as u16,
         _ => {}
     }
-    header[Field::Crc5] = header.crc5();
+    header[Field::Crc5] = header.crc5(rules.edition);
     if number == 4 {
         header[Field::Crc5] ^= rng.within(1..=31) as u16;
     }

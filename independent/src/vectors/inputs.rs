@@ -1,15 +1,19 @@
 //! The inputs of each kind.
 
 use super::frame::{
-    fresh_header, light_damage, sized, Frame, PayloadRule, BEYOND, PAYLOAD_ROOM, WIDEST,
+    fresh_header, light_damage, put_edition, sized, widest, Frame, PayloadRule, BEYOND,
+    PAYLOAD_ROOM,
 };
 use super::{sheets, shown, stored, telling, Kind};
 use crate::air::{AIR_BITS, WORDS};
 use crate::header::{largest, Field, Header, GIVEN, HEADER_BITS, LONGEST_PAYLOAD, WIDTHS};
 use crate::page::ROWS;
 use crate::rng::Rng;
-use crate::rules::Rules;
+use crate::rules::{Edition, Rules, EDITIONS};
 use crate::sample::{burst, flip_pattern, flip_some, LONGEST_BURST};
+
+/// The edition of the base; `telling` has inputs for the other one.
+const FLOWN: Edition = Edition::Flown;
 
 /// Room for a payload of `pages`.
 pub(super) const PAGE_ROOM: usize = 1_100;
@@ -40,6 +44,7 @@ pub(super) fn mixture(kind: Kind, seed: u64) -> Vec<Vec<u8>> {
         Kind::Shown => shown::mixture(rng),
         Kind::Sheets => sheets::inputs(rng),
         Kind::Sources => sheets::source_inputs(rng),
+        Kind::Wides => sheets::wide_inputs(rng),
         Kind::Stored => stored::inputs(seed),
     }
 }
@@ -66,22 +71,34 @@ fn crc13_inputs(rng: &mut Rng) -> Vec<Vec<u8>> {
     payloads.iter().map(|p| sized(p, PAYLOAD_ROOM)).collect()
 }
 
-/// No bit, each one bit, all bits, all but one; then bits by chance.
+/// No bit, each one bit, all bits, all but one, under both editions; then bits by chance, under one of them.
 fn crc5_inputs(rng: &mut Rng) -> Vec<Vec<u8>> {
     let mut inputs = Vec::new();
-    for base in [0, 1] {
-        let all = vec![base; 65];
-        inputs.push(all.clone());
-        for bit in 0..65 {
-            let mut one = all.clone();
-            one[bit] ^= 1;
-            inputs.push(one);
+    for edition in EDITIONS {
+        for base in [0, 1] {
+            let all = vec![base; 65];
+            inputs.push(crc5_input(edition, &all));
+            for bit in 0..65 {
+                let mut one = all.clone();
+                one[bit] ^= 1;
+                inputs.push(crc5_input(edition, &one));
+            }
         }
     }
     for _ in 0..1_000 {
-        inputs.push((0..65).map(|_| rng.below(2) as u8).collect());
+        let edition = EDITIONS[rng.below(2) as usize];
+        let bits: Vec<u8> = (0..65).map(|_| rng.below(2) as u8).collect();
+        inputs.push(crc5_input(edition, &bits));
     }
     inputs
+}
+
+/// One input of `crc5`.
+fn crc5_input(edition: Edition, bits: &[u8]) -> Vec<u8> {
+    let mut record = Vec::new();
+    put_edition(edition, &mut record);
+    record.extend(bits);
+    record
 }
 
 /// Header slices for each answer of the reader, and for the order of its refusals.
@@ -97,7 +114,7 @@ fn header_slices(rng: &mut Rng) -> Vec<Vec<u8>> {
     // 2: an element above 1, also before and after others and in words beyond repair
     for index in [0, 1, 13, 14, 100, 208, 209] {
         for value in [2, 3, 128, 255] {
-            let mut air = fresh_header(rng, &[]).to_air();
+            let mut air = fresh_header(rng, FLOWN, &[]).to_air();
             air[index] = value;
             air[209] |= value;
             slices.push(air.to_vec());
@@ -108,20 +125,20 @@ fn header_slices(rng: &mut Rng) -> Vec<Vec<u8>> {
     // Each header bit alone, under a right CRC5.
     for n in 0..HEADER_BITS {
         let mut header = Header::from_bits(1 << (HEADER_BITS - 1 - n));
-        header[Field::Crc5] = header.crc5();
+        header[Field::Crc5] = header.crc5(FLOWN);
         slices.push(header.to_air().to_vec());
     }
     // Clean, then within repair.
     for _ in 0..100 {
-        slices.push(fresh_header(rng, &[]).to_air().to_vec());
+        slices.push(fresh_header(rng, FLOWN, &[]).to_air().to_vec());
     }
     for _ in 0..300 {
-        let mut air = fresh_header(rng, &[]).to_air();
+        let mut air = fresh_header(rng, FLOWN, &[]).to_air();
         light_damage(rng, &mut air);
         slices.push(air.to_vec());
     }
     for _ in 0..60 {
-        let mut air = fresh_header(rng, &[]).to_air();
+        let mut air = fresh_header(rng, FLOWN, &[]).to_air();
         for word in 0..WORDS {
             flip_some(rng, &mut air, word, 3);
         }
@@ -130,7 +147,7 @@ fn header_slices(rng: &mut Rng) -> Vec<Vec<u8>> {
     // Bursts of 42 and of 43 at each place.
     for length in [LONGEST_BURST, LONGEST_BURST + 1] {
         for start in 0..=AIR_BITS - length {
-            let mut air = fresh_header(rng, &[]).to_air();
+            let mut air = fresh_header(rng, FLOWN, &[]).to_air();
             burst(&mut air, start, length);
             slices.push(air.to_vec());
         }
@@ -138,7 +155,7 @@ fn header_slices(rng: &mut Rng) -> Vec<Vec<u8>> {
     // 3: words beyond repair
     for word in 0..WORDS {
         for other in word..WORDS {
-            let mut air = fresh_header(rng, &[]).to_air();
+            let mut air = fresh_header(rng, FLOWN, &[]).to_air();
             flip_pattern(&mut air, word, BEYOND);
             if other > word {
                 flip_pattern(&mut air, other, BEYOND);
@@ -148,25 +165,25 @@ fn header_slices(rng: &mut Rng) -> Vec<Vec<u8>> {
     }
     // 4 to 6, alone and together
     for change in 1..=31 {
-        let mut header = fresh_header(rng, &[]);
+        let mut header = fresh_header(rng, FLOWN, &[]);
         header[Field::Crc5] ^= change;
         slices.push(header.to_air().to_vec());
     }
     for src_id in 8..=127 {
         for ai_type_src in [rng.below(4) as u16, rng.within(4..=15) as u16] {
             for wrong in [0, rng.within(1..=31) as u16] {
-                let mut header = fresh_header(rng, &[]);
+                let mut header = fresh_header(rng, FLOWN, &[]);
                 header[Field::SrcId] = src_id;
                 header[Field::AiTypeSrc] = ai_type_src;
-                header[Field::Crc5] = header.crc5() ^ wrong;
+                header[Field::Crc5] = header.crc5(FLOWN) ^ wrong;
                 slices.push(header.to_air().to_vec());
             }
         }
     }
     for ai_type_src in 4..=15 {
-        let mut header = fresh_header(rng, &[]);
+        let mut header = fresh_header(rng, FLOWN, &[]);
         header[Field::AiTypeSrc] = ai_type_src;
-        header[Field::Crc5] = header.crc5();
+        header[Field::Crc5] = header.crc5(FLOWN);
         slices.push(header.to_air().to_vec());
     }
     for _ in 0..300 {
@@ -175,9 +192,9 @@ fn header_slices(rng: &mut Rng) -> Vec<Vec<u8>> {
     slices
 }
 
-/// A frame under the rules that refuse none for its flips.
-fn widest(slice: Vec<u8>, rule: PayloadRule) -> Frame {
-    let rules = WIDEST;
+/// A flown frame under the rules that refuse none for its flips.
+fn flown(slice: Vec<u8>, rule: PayloadRule) -> Frame {
+    let rules = widest(FLOWN);
     Frame { rules, slice, rule }
 }
 
@@ -189,68 +206,83 @@ fn base_headers(rng: &mut Rng) -> Vec<Frame> {
         step: 1,
     };
     let slices = header_slices(rng).into_iter();
-    let mut frames: Vec<Frame> = slices.map(|slice| widest(slice, rule)).collect();
+    let mut frames: Vec<Frame> = slices.map(|slice| flown(slice, rule)).collect();
     // 21 about as often as not
     for _ in 0..200 {
-        let mut air = fresh_header(rng, &rule.payload()).to_air();
+        let mut air = fresh_header(rng, FLOWN, &rule.payload()).to_air();
         light_damage(rng, &mut air);
         let limit = rng.below(20);
         frames.push(Frame {
-            rules: Rules { limit },
-            ..widest(air.to_vec(), rule)
+            rules: Rules {
+                limit,
+                ..widest(FLOWN)
+            },
+            ..flown(air.to_vec(), rule)
         });
     }
     frames
 }
 
 /// One input of `writes`.
-fn write_input(fields: &[u8; GIVEN], room: usize, rule: PayloadRule) -> Vec<u8> {
-    let mut record = fields.to_vec();
+fn write_input(edition: Edition, fields: &[u8; GIVEN], room: usize, rule: PayloadRule) -> Vec<u8> {
+    let mut record = Vec::new();
+    put_edition(edition, &mut record);
+    record.extend(fields);
     record.extend((room as u16).to_be_bytes());
     record.extend(rule.bytes());
     record
 }
 
+/// Fields that the writer takes under an edition.
+fn in_range(rng: &mut Rng, edition: Edition) -> [u8; GIVEN] {
+    let mut fields = [0; GIVEN];
+    for (field, value) in fields.iter_mut().enumerate() {
+        *value = rng.within(0..=u32::from(largest(edition, field))) as u8;
+    }
+    fields
+}
+
 /// Headers in range; each field at and over its limits, alone and two by two; rooms and payloads at and
 /// over theirs, and several at once.
 fn write_inputs(rng: &mut Rng) -> Vec<Vec<u8>> {
-    fn in_range(rng: &mut Rng) -> [u8; GIVEN] {
-        let mut fields = [0; GIVEN];
-        for (field, value) in fields.iter_mut().enumerate() {
-            *value = rng.within(0..=u32::from(largest(field))) as u8;
-        }
-        fields
-    }
     let mut inputs = Vec::new();
-    for _ in 0..300 {
+    for round in 0..300 {
+        let edition = EDITIONS[round % 2];
         let length = rng.below(LONGEST_PAYLOAD as u32 + 1) as usize;
         let rule = PayloadRule::chance(rng, length);
         let room = rng.within(210..=256) as usize;
-        inputs.push(write_input(&in_range(rng), room, rule));
+        inputs.push(write_input(edition, &in_range(rng, edition), room, rule));
     }
     for field in 0..GIVEN {
-        let most = largest(field) as u8;
-        let whole = (1u16 << WIDTHS[field]) - 1;
-        for value in [0, most, most + 1, whole as u8, whole as u8 + 1, 255] {
-            let mut fields = in_range(rng);
-            fields[field] = value;
-            inputs.push(write_input(&fields, 210, PayloadRule::chance(rng, 62)));
+        for edition in EDITIONS {
+            let most = largest(edition, field) as u8;
+            let whole = (1u16 << WIDTHS[field]) - 1;
+            for value in [0, 7, 8, most, most + 1, whole as u8, whole as u8 + 1, 255] {
+                let mut fields = in_range(rng, edition);
+                fields[field] = value;
+                let rule = PayloadRule::chance(rng, 62);
+                inputs.push(write_input(edition, &fields, 210, rule));
+            }
         }
         for other in field + 1..GIVEN {
-            let mut fields = in_range(rng);
-            fields[field] = most + 1;
+            let edition = EDITIONS[other % 2];
+            let mut fields = in_range(rng, edition);
+            fields[field] = largest(edition, field) as u8 + 1;
             fields[other] = 255;
-            inputs.push(write_input(&fields, 210, PayloadRule::chance(rng, 62)));
+            let rule = PayloadRule::chance(rng, 62);
+            inputs.push(write_input(edition, &fields, 210, rule));
         }
     }
     for room in [0, 1, 14, 209, 210, 211, 256] {
         for length in [0, 1, 1_022, 1_023, 1_024, 1_025, 2_047] {
             for over in [false, true] {
-                let mut fields = in_range(rng);
+                let edition = EDITIONS[rng.below(2) as usize];
+                let mut fields = in_range(rng, edition);
                 if over {
                     fields[rng.below(GIVEN as u32) as usize] = 200;
                 }
-                inputs.push(write_input(&fields, room, PayloadRule::chance(rng, length)));
+                let rule = PayloadRule::chance(rng, length);
+                inputs.push(write_input(edition, &fields, room, rule));
             }
         }
     }
@@ -260,7 +292,7 @@ fn write_inputs(rng: &mut Rng) -> Vec<Vec<u8>> {
 /// Frames that are accepted, or refused with 7 or 8; then every slice of `headers`.
 fn frame_inputs(rng: &mut Rng) -> Vec<Vec<u8>> {
     let mut frames = Vec::new();
-    let mut push = |air: &[u8], rule: PayloadRule| frames.push(widest(air.to_vec(), rule));
+    let mut push = |air: &[u8], rule: PayloadRule| frames.push(flown(air.to_vec(), rule));
     for round in 0..200 {
         let length = match round {
             0..=9 => round,
@@ -268,7 +300,7 @@ fn frame_inputs(rng: &mut Rng) -> Vec<Vec<u8>> {
             _ => rng.below(LONGEST_PAYLOAD as u32 + 1) as usize,
         };
         let rule = PayloadRule::chance(rng, length);
-        let header = fresh_header(rng, &rule.payload());
+        let header = fresh_header(rng, FLOWN, &rule.payload());
         let mut air = header.to_air();
         light_damage(rng, &mut air);
         push(&air, rule);
@@ -284,7 +316,7 @@ fn frame_inputs(rng: &mut Rng) -> Vec<Vec<u8>> {
         // 8: one bit of CRC13, also beside a wrong length
         let mut wrong = header;
         wrong[Field::Crc13] ^= 1 << (round % 13);
-        wrong[Field::Crc5] = wrong.crc5();
+        wrong[Field::Crc5] = wrong.crc5(FLOWN);
         push(&wrong.to_air(), rule);
         push(&wrong.to_air(), other(length + 2));
     }

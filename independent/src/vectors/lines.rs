@@ -7,7 +7,8 @@ use super::replies::{AIR_ROOM, FIELD_BYTES, NAN_BITS, USER_ROOM};
 use super::Kind;
 use crate::air::WORDS;
 use crate::page::ROWS;
-use crate::sheet::{COUNTS, SOURCES};
+use crate::rules::Edition;
+use crate::sheet::COUNTS;
 
 /// The line of a reply of any kind but `stored`, without its line feed.
 pub(super) fn line(kind: Kind, reply: &[u8]) -> String {
@@ -27,6 +28,7 @@ pub(super) fn line(kind: Kind, reply: &[u8]) -> String {
         }),
         Kind::Sheets => sheet_line(&mut reply),
         Kind::Sources => source_line(&mut reply),
+        Kind::Wides => wide_line(&mut reply),
         Kind::Stored => unreachable!("a stored record has the kind of what it holds"),
     }
 }
@@ -130,11 +132,24 @@ fn source_line(reply: &mut Bytes) -> String {
 fn sheet_line(reply: &mut Bytes) -> String {
     let answer = reply.take(Kind::Headers.reply_bytes());
     let mut line = heard_line(&mut Bytes(answer));
-    for _ in 0..SOURCES {
+    for _ in 0..Edition::Flown.sources() {
         add_source(&mut line, reply);
     }
     for _ in 0..COUNTS {
         add(&mut line, reply.u32());
     }
+    line
+}
+
+/// One source of a corrected sheet behind its number, the counts, and how many frames were heard.
+fn wide_line(reply: &mut Bytes) -> String {
+    let answer = reply.take(Kind::Headers.reply_bytes());
+    let mut line = heard_line(&mut Bytes(answer));
+    add(&mut line, reply.u8());
+    add_source(&mut line, reply);
+    for _ in 0..COUNTS {
+        add(&mut line, reply.u32());
+    }
+    add(&mut line, reply.number(8));
     line
 }

@@ -35,11 +35,12 @@ pub enum Kind {
     Shown,
     Sheets,
     Sources,
+    Wides,
     Stored,
 }
 
 /// All kinds with their names, in the order that numbers them in `stored`.
-pub const KINDS: [(&str, Kind); 13] = [
+pub const KINDS: [(&str, Kind); 14] = [
     ("words", Kind::Words),
     ("encode", Kind::Encode),
     ("crc13", Kind::Crc13),
@@ -52,6 +53,7 @@ pub const KINDS: [(&str, Kind); 13] = [
     ("shown", Kind::Shown),
     ("sheets", Kind::Sheets),
     ("sources", Kind::Sources),
+    ("wides", Kind::Wides),
     ("stored", Kind::Stored),
 ];
 
@@ -59,19 +61,20 @@ pub const KINDS: [(&str, Kind); 13] = [
 pub const DEFAULT_SEED: u64 = 1;
 
 /// The sizes of a record and of a reply, in the order of the kinds; a `stored` record has the sizes of what it holds.
-const SIZES: [(usize, usize); 12] = [
+const SIZES: [(usize, usize); 13] = [
     (2, 12),
     (1, 3),
     (2_049, 4),
-    (65, 1),
-    (262, 60),
-    (20, 267),
-    (266, 60),
+    (66, 1),
+    (263, 60),
+    (21, 267),
+    (267, 60),
     (1_102, 80),
     (36, 75),
     (28, 17),
-    (546, 388),
+    (547, 388),
     (329, 52),
+    (296, 145),
 ];
 
 impl Kind {

@@ -1,17 +1,16 @@
 //! The reply to each input.
 
 use super::bytes::{put, Bytes};
-use super::frame::{PayloadRule, HEADER_ROOM, PAYLOAD_ROOM};
+use super::frame::{take_edition, take_rules, PayloadRule, HEADER_ROOM, PAYLOAD_ROOM};
 use super::inputs::PAGE_ROOM;
-use super::sheets::{put_sheet, put_source, take_sheet};
+use super::sheets::{put_counts, put_sheet, put_source, take_sheet, Wide};
 use super::Kind;
 use crate::air::AIR_BITS;
 use crate::crc::crc13;
 use crate::frame::read_frame;
-use crate::header::{flown_crc5, read_header, write_header, Heard, FIELDS, GIVEN};
+use crate::header::{crc5, read_header, write_header, Field, Heard, FIELDS, GIVEN};
 use crate::page::{read_page, write_page, Page, ROWS};
 use crate::refusal::Refusal;
-use crate::rules::Rules;
 use crate::shown::Scaling;
 use crate::word::{encode, repair};
 
@@ -46,11 +45,12 @@ pub(super) fn reply(kind: Kind, input: &[u8]) -> Vec<u8> {
             put(&mut out, 2, crc13(payload));
         }
         Kind::Crc5 => {
+            let edition = take_edition(&mut input);
             let bits = input
                 .take(65)
                 .iter()
                 .fold(0, |bits, &bit| bits << 1 | u128::from(bit % 2));
-            put(&mut out, 1, flown_crc5(bits << 5));
+            put(&mut out, 1, crc5(edition, bits << 5));
         }
         Kind::Headers => {
             let rules = take_rules(&mut input);
@@ -76,15 +76,11 @@ pub(super) fn reply(kind: Kind, input: &[u8]) -> Vec<u8> {
             put(&mut out, 8, source.accepted());
             put(&mut out, 8, source.repaired());
         }
+        Kind::Wides => wide_reply(&mut input, &mut out),
         Kind::Stored => unreachable!("a stored record has the kind of what it holds"),
     }
     out.resize(kind.reply_bytes(), 0);
     out
-}
-
-/// How a frame is read.
-fn take_rules(input: &mut Bytes) -> Rules {
-    Rules { limit: input.u32() }
 }
 
 /// The payload of a payload rule.
@@ -145,10 +141,11 @@ fn put_written(answer: Result<(), Refusal>, output: &[u8], out: &mut Vec<u8>) {
 }
 
 fn write_reply(input: &mut Bytes, out: &mut Vec<u8>) {
+    let edition = take_edition(input);
     let mut given = [0; GIVEN];
     given.fill_with(|| input.u8().into());
     let mut output = vec![HELD_AIR; input.length(AIR_ROOM)];
-    let answer = write_header(&given, &payload(input), &mut output);
+    let answer = write_header(edition, &given, &payload(input), &mut output);
     put_written(answer, &output, out);
 }
 
@@ -215,4 +212,23 @@ fn sheet_reply(input: &mut Bytes, out: &mut Vec<u8>) {
     // beside a refusal the fields of a header and the patterns are zeros
     out.resize(Kind::Headers.reply_bytes(), 0);
     put_sheet(&sheet, out);
+}
+
+/// The source that is told of is the frame's where it was accepted, else that of the record.
+fn wide_reply(input: &mut Bytes, out: &mut Vec<u8>) {
+    let rules = take_rules(input);
+    let wide = Wide::take(input);
+    let mut sheet = wide.sheet();
+    let air = input.take(AIR_BITS);
+    let answer = sheet.offer(rules, air, &payload(input));
+    let number = match &answer {
+        Ok(heard) => heard.header[Field::SrcId] as u8,
+        Err(_) => wide.number,
+    };
+    heard_reply(answer, out);
+    out.resize(Kind::Headers.reply_bytes(), 0);
+    put(out, 1, number);
+    put_source(&sheet.source(number.into()), out);
+    put_counts(&sheet.refused, out);
+    put(out, 8, sheet.offered());
 }

@@ -1,20 +1,29 @@
-//! Sheets in records and replies, and the mixture of `sheets` and of `sources`.
+//! Sheets in records and replies, and the mixtures of `sheets`, `sources` and `wides`.
 
 use super::bytes::{put, Bytes};
 use super::frame::{fresh_header, light_damage, Frame, PayloadRule};
 use crate::air::AIR_BITS;
+use crate::frame::read_frame;
 use crate::header::{Field, FIELDS, WIDTHS};
 use crate::rng::Rng;
-use crate::rules::{Rules, LARGEST_LIMIT, USUAL_LIMIT};
+use crate::rules::{Edition, Rules, LARGEST_LIMIT, USUAL_LIMIT};
 use crate::sample::flip_some;
-use crate::sheet::{Lane, Sheet, Source, COUNTS, FULL, SOURCES};
+use crate::sheet::{Lane, Sheet, Source, COUNTS, FULL};
 
-/// Puts a sheet: its sources, then its counts.
+/// The sources of the flown sheet.
+const SOURCES: usize = Edition::Flown.sources();
+
+/// Puts a flown sheet: its sources, then its counts.
 pub(super) fn put_sheet(sheet: &Sheet, out: &mut Vec<u8>) {
     for source in &sheet.sources {
         put_source(source, out);
     }
-    for count in sheet.refused {
+    put_counts(&sheet.refused, out);
+}
+
+/// Puts the counts of a sheet.
+pub(super) fn put_counts(counts: &[u32; COUNTS], out: &mut Vec<u8>) {
+    for &count in counts {
         put(out, 4, count);
     }
 }
@@ -31,14 +40,59 @@ pub(super) fn put_source(source: &Source, out: &mut Vec<u8>) {
     }
 }
 
-/// The sheet of a record.
+/// The flown sheet of a record.
 pub(super) fn take_sheet(input: &mut Bytes) -> Sheet {
-    let mut sheet = Sheet::new();
+    let mut sheet = Sheet::new(Edition::Flown);
     for source in &mut sheet.sources {
         *source = take_source(input);
     }
     sheet.refused.fill_with(|| input.u32());
     sheet
+}
+
+/// A corrected sheet on which all sources but one are silent.
+pub(super) struct Wide {
+    pub number: u8,
+    pub source: Source,
+    pub refused: [u32; COUNTS],
+}
+
+impl Wide {
+    /// A sheet that was offered nothing.
+    pub fn new() -> Wide {
+        Wide {
+            number: 0,
+            source: Source::default(),
+            refused: [0; COUNTS],
+        }
+    }
+
+    /// Puts the one source's number, its lanes and the counts.
+    pub fn put(&self, out: &mut Vec<u8>) {
+        put(out, 1, self.number);
+        put_source(&self.source, out);
+        put_counts(&self.refused, out);
+    }
+
+    /// The sheet of a record. A number above 127 counts as 127.
+    pub fn take(input: &mut Bytes) -> Wide {
+        let largest = Edition::Corrected.largest_src_id() as u8;
+        let mut wide = Wide {
+            number: input.u8().min(largest),
+            source: take_source(input),
+            refused: [0; COUNTS],
+        };
+        wide.refused.fill_with(|| input.u32());
+        wide
+    }
+
+    /// The whole sheet.
+    pub fn sheet(&self) -> Sheet {
+        let mut sheet = Sheet::new(Edition::Corrected);
+        sheet.sources[usize::from(self.number)] = self.source;
+        sheet.refused = self.refused;
+        sheet
+    }
 }
 
 /// A source of a record.
@@ -64,7 +118,7 @@ fn take_lane(input: &mut Bytes) -> Lane {
 
 /// Sheets of five sorts: new, small, about to be full by so many, with counts at their limit, and with sums past 32 bits.
 fn made_up(rng: &mut Rng) -> Sheet {
-    let mut sheet = Sheet::new();
+    let mut sheet = Sheet::new(Edition::Flown);
     let sort = rng.below(5);
     if sort == 0 {
         return sheet;
@@ -120,7 +174,7 @@ pub(super) fn inputs(rng: &mut Rng) -> Vec<Vec<u8>> {
     let mut inputs = Vec::new();
     for _ in 0..2_000 {
         let sheet = made_up(rng);
-        let frame = offered(rng);
+        let frame = offered(rng, Edition::Flown);
         inputs.extend(frame.sheet_input(&sheet));
     }
     inputs
@@ -148,16 +202,37 @@ pub(super) fn source_inputs(rng: &mut Rng) -> Vec<Vec<u8>> {
     inputs
 }
 
+/// Made-up corrected sheets with one source, which is the frame's or is not.
+pub(super) fn wide_inputs(rng: &mut Rng) -> Vec<Vec<u8>> {
+    let mut inputs = Vec::new();
+    for _ in 0..1_500 {
+        let sheet = made_up(rng);
+        let frame = offered(rng, Edition::Corrected);
+        let own = read_frame(frame.rules, &frame.slice, &frame.rule.payload());
+        let number = match own {
+            Ok(heard) if rng.one_in(2) => heard.header[Field::SrcId] as u8,
+            _ => rng.below(128) as u8,
+        };
+        let wide = Wide {
+            number,
+            source: sheet.sources[0],
+            refused: sheet.refused,
+        };
+        inputs.extend(frame.wide_input(&wide));
+    }
+    inputs
+}
+
 /// A frame with at most one thing wrong, under limits that are named in earnest and some that are not.
-fn offered(rng: &mut Rng) -> Frame {
+fn offered(rng: &mut Rng, edition: Edition) -> Frame {
     let rule = PayloadRule::short(rng);
-    let mut header = fresh_header(rng, &rule.payload());
+    let mut header = fresh_header(rng, edition, &rule.payload());
     // 4 to 8 by one field that is not as it should be; most fields may be anything
     if rng.one_in(4) {
         let field = rng.below(FIELDS as u32) as usize;
         header.values[field] ^= rng.within(1..=(1 << WIDTHS[field]) - 1) as u16;
         if field != Field::Crc5 as usize {
-            header[Field::Crc5] = header.crc5();
+            header[Field::Crc5] = header.crc5(edition);
         }
     }
     let mut air = header.to_air();
@@ -173,7 +248,7 @@ fn offered(rng: &mut Rng) -> Frame {
         _ => LARGEST_LIMIT,
     };
     Frame {
-        rules: Rules { limit },
+        rules: Rules { edition, limit },
         slice: air.to_vec(),
         rule,
     }

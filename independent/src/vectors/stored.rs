@@ -22,19 +22,20 @@ struct Share {
 }
 
 /// The shares of the kinds, in the order that numbers them: all but `stored` itself.
-const SHARES: [(Kind, Share); 12] = [
+const SHARES: [(Kind, Share); 13] = [
     (Kind::Words, one_of(1, 0)),
     (Kind::Encode, one_of(1, 0)),
     (Kind::Crc13, one_of(7, 0)),
     (Kind::Crc5, one_of(5, 0)),
-    (Kind::Headers, one_of(5, 128)),
+    (Kind::Headers, one_of(7, 128)),
     (Kind::Writes, one_of(5, 16)),
     (Kind::Frames, one_of(11, 16)),
     (Kind::Pages, one_of(23, 8)),
     (Kind::Rows, one_of(3, 34)),
     (Kind::Shown, one_of(61, 1)),
-    (Kind::Sheets, one_of(13, 8)),
+    (Kind::Sheets, one_of(17, 8)),
     (Kind::Sources, one_of(13, 0)),
+    (Kind::Wides, one_of(23, 8)),
 ];
 
 const fn one_of(every: usize, places: usize) -> Share {
@@ -92,10 +93,10 @@ fn is_limit(kind: Kind, input: &[u8]) -> bool {
     match kind {
         Kind::Crc13 => [0, 1, 2, 1_022, longest, longest + 1, 2_047].contains(&two(0)),
         // No bit, one bit, all bits, all but one.
-        Kind::Crc5 => [0, 1, 64, 65].contains(&input.iter().filter(|&&bit| bit == 1).count()),
+        Kind::Crc5 => [0, 1, 64, 65].contains(&input[1..].iter().filter(|&&bit| bit == 1).count()),
         // The writer's payload lengths; 62 is that of fields at and over their limits.
-        Kind::Writes => [0, 62, longest, longest + 1].contains(&two(16)),
-        Kind::Frames => [0, longest, longest + 1].contains(&two(262)),
+        Kind::Writes => [0, 62, longest, longest + 1].contains(&two(17)),
+        Kind::Frames => [0, longest, longest + 1].contains(&two(263)),
         // Around 8 and 12 bytes, 34 user bytes without and with a time tag, the longest payload, the
         // most user bytes without and with a time tag.
         Kind::Pages => {

@@ -5,8 +5,8 @@ use Rattle.crc.proofs.TwoNumbers.{counted-lt, counted-in}
 use Rattle.crc.proofs.crc5.Statement.{statement}
 use Rattle.crc.proofs.crc5.Tie as tie
 
-counted-flown-requires : tie.Need-counted-flown-requires
-counted-flown-requires c κs = search needs
+counting-requires : tie.Need-counting-requires
+counting-requires c κs = search needs
 
 crc5-over-requires : tie.Need-crc5-over-requires
 crc5-over-requires c κs = search (needs, counted-lt)
@@ -15,4 +15,4 @@ returns : tie.Need-returns
 returns c = search (needs, counted-in)
 
 pub crc5-spec : {M : Type 1} → statement M
-crc5-spec = tie.close (tie.spec counted-flown-requires crc5-over-requires returns)
+crc5-spec = tie.close (tie.spec counting-requires crc5-over-requires returns)

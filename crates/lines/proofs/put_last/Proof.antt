@@ -5,26 +5,26 @@ use Rattle.lines.proofs.Putting.{put-last}
 use Rattle.lines.proofs.put_last.Statement.{statement}
 use Rattle.lines.proofs.put_last.Tie as tie
 
-heard-requires : tie.Need-heard-requires
-heard-requires c κs = search needs
-
-accepted-requires : tie.Need-accepted-requires
-accepted-requires c κs = search needs
-
-refused-requires : tie.Need-refused-requires
-refused-requires c κs = search needs
-
 slice-aggregate-put-text : tie.Need-slice-aggregate-put-text
 slice-aggregate-put-text c = search needs
 
 put-text-requires : tie.Need-put-text-requires
 put-text-requires c κs = search needs
 
+total-requires : tie.Need-total-requires
+total-requires c κs = search needs
+
 slice-aggregate-put-three : tie.Need-slice-aggregate-put-three
 slice-aggregate-put-three c = search needs
 
+cast-put-three : tie.Need-cast-put-three
+cast-put-three c = search needs
+
 slice-aggregate-put-three-2 : tie.Need-slice-aggregate-put-three-2
 slice-aggregate-put-three-2 c = search needs
+
+cast-put-three-2 : tie.Need-cast-put-three-2
+cast-put-three-2 c = search needs
 
 slice-aggregate-put-three-3 : tie.Need-slice-aggregate-put-three-3
 slice-aggregate-put-three-3 c = search needs
@@ -42,13 +42,13 @@ pub put-last-spec : {M : Type 1} → statement M
 put-last-spec =
     tie.close
     (tie.spec
-    heard-requires
-    accepted-requires
-    refused-requires
     slice-aggregate-put-text
     put-text-requires
+    total-requires
     slice-aggregate-put-three
+    cast-put-three
     slice-aggregate-put-three-2
+    cast-put-three-2
     slice-aggregate-put-three-3
     put-three-requires
     same-length

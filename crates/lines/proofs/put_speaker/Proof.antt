@@ -1,30 +1,21 @@
--- `lines::put_speaker` meets its contract: each part goes where the one before it ends.
+-- `lines::put_speaker` meets its contract, edition by edition.
 -- Assumes nothing.
 use borrow.Author.Needs.{needs}
 use Rattle.lines.proofs.Putting.{put-speaker}
 use Rattle.lines.proofs.put_speaker.Statement.{statement}
 use Rattle.lines.proofs.put_speaker.Tie as tie
 
-letter-requires : tie.Need-letter-requires
-letter-requires c κs = search needs
+enum-told : tie.Need-enum-told
+enum-told c = search needs
 
-slice-aggregate-put-text : tie.Need-slice-aggregate-put-text
-slice-aggregate-put-text c = search needs
+put-radio-requires : tie.Need-put-radio-requires
+put-radio-requires c κs = search needs
 
-put-text-requires : tie.Need-put-text-requires
-put-text-requires c κs = search needs
+enum-told-2 : tie.Need-enum-told-2
+enum-told-2 c = search needs
 
-slice-aggregate-put-text-2 : tie.Need-slice-aggregate-put-text-2
-slice-aggregate-put-text-2 c = search needs
-
-put-text-requires-2 : tie.Need-put-text-requires-2
-put-text-requires-2 c κs = search needs
-
-radio-requires : tie.Need-radio-requires
-radio-requires c κs = search needs
-
-put-decimal-requires : tie.Need-put-decimal-requires
-put-decimal-requires c κs = search needs
+put-number-requires : tie.Need-put-number-requires
+put-number-requires c κs = search needs
 
 same-length : tie.Need-same-length
 same-length c = search needs
@@ -32,16 +23,21 @@ same-length c = search needs
 returns : tie.Need-returns
 returns c = (search (needs, put-speaker), search needs)
 
+same-length-2 : tie.Need-same-length-2
+same-length-2 c = search needs
+
+returns-2 : tie.Need-returns-2
+returns-2 c = (search (needs, put-speaker), search needs)
+
 pub put-speaker-spec : {M : Type 1} → statement M
 put-speaker-spec =
     tie.close
     (tie.spec
-    letter-requires
-    slice-aggregate-put-text
-    put-text-requires
-    slice-aggregate-put-text-2
-    put-text-requires-2
-    radio-requires
-    put-decimal-requires
+    enum-told
+    put-radio-requires
+    enum-told-2
+    put-number-requires
     same-length
-    returns)
+    returns
+    same-length-2
+    returns-2)

@@ -7,13 +7,10 @@ use Rattle.list.proofs.list.Statement.{statement}
 use Rattle.list.proofs.list.Tie as tie
 
 abbrev Inv-loop : tie.InvT-loop
-Inv-loop table strict buf₀ out₀ sheet₀ front₀ kept₀ turns₀ buf out sheet front kept turns = Ready buf₀ out₀ buf out kept
+Inv-loop table rules strict buf₀ out₀ tally₀ front₀ kept₀ turns₀ buf out tally front kept turns = Ready buf₀ out₀ buf out kept
 
 abbrev μ-loop : tie.MeasureT-loop
-μ-loop table strict buf₀ out₀ sheet₀ front₀ kept₀ turns₀ buf out sheet front kept turns = turns
-
-new-sheet-requires : tie.Need-new-sheet-requires Inv-loop μ-loop
-new-sheet-requires c κs = search needs
+μ-loop table rules strict buf₀ out₀ tally₀ front₀ kept₀ turns₀ buf out tally front kept turns = turns
 
 loop-holds : tie.Need-loop-holds Inv-loop μ-loop
 loop-holds c = search (needs, starts)
@@ -78,7 +75,6 @@ list-spec =
     (tie.spec
     Inv-loop
     μ-loop
-    new-sheet-requires
     loop-holds
     read-on-requires
     turn-requires

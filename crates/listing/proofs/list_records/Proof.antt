@@ -8,10 +8,10 @@ use Rattle.listing.proofs.list_records.Statement.{statement}
 use Rattle.listing.proofs.list_records.Tie as tie
 
 abbrev Inv-loop : tie.InvT-loop
-Inv-loop table piece out₀ at sheet₀ used₀ to₀ out sheet used to = Scanning sheet₀ piece out₀ at out sheet used to
+Inv-loop table rules piece out₀ at tally₀ used₀ to₀ out tally used to = Scanning rules tally₀ piece out₀ at out tally used to
 
 abbrev μ-loop : tie.MeasureT-loop
-μ-loop table piece out₀ at sheet₀ used₀ to₀ out sheet used to = length piece - used
+μ-loop table rules piece out₀ at tally₀ used₀ to₀ out tally used to = length piece - used
 
 loop-holds : tie.Need-loop-holds Inv-loop μ-loop
 loop-holds c = search (needs, starts)
@@ -31,8 +31,8 @@ next-record-requires c κs = search needs
 enum-known-len : tie.Need-enum-known-len Inv-loop μ-loop
 enum-known-len c = search needs
 
-heard-requires : tie.Need-heard-requires Inv-loop μ-loop
-heard-requires c κs = search needs
+total-requires : tie.Need-total-requires Inv-loop μ-loop
+total-requires c κs = search needs
 
 take-record-requires : tie.Need-take-record-requires Inv-loop μ-loop
 take-record-requires c κs = (search needs, (search needs, (search needs, (search (needs, all-there), search (needs, has-room)))))
@@ -85,7 +85,7 @@ list-records-spec =
     part-rest-end
     next-record-requires
     enum-known-len
-    heard-requires
+    total-requires
     take-record-requires
     add-used
     add-used-2

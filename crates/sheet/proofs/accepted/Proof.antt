@@ -2,18 +2,19 @@
 -- Assumes nothing.
 use Prim.Native.Nat.{_-_, _*_}
 use borrow.Author.Needs.{needs}
+use Rattle.base.specs.declared.Edition.the-variants.{Flown}
 use Rattle.sheet.specs.Records.{countLimit}
 use Rattle.sheet.specs.Lanes.{lanes, framesOf}
-use Rattle.sheet.specs.Sheets.{records, sourceAt, acceptedOf}
+use Rattle.sheet.specs.Sheets.{recordsOf, sourceAt, acceptedOf}
 use Rattle.sheet.proofs.Totals.{Summed, sum-starts, sum-fits, sum-goes-on, sum-ends, sum-small}
 use Rattle.sheet.proofs.accepted.Statement.{statement}
 use Rattle.sheet.proofs.accepted.Tie as tie
 
 abbrev Inv-loop : tie.InvT-loop
-Inv-loop sheet sum₀ k₀ sum k = Summed records (lanes * countLimit) (λ k. framesOf (sourceAt sheet k)) k sum
+Inv-loop sheet sum₀ k₀ sum k = Summed (recordsOf Flown) (lanes * countLimit) (λ k. framesOf (sourceAt sheet k)) k sum
 
 abbrev μ-loop : tie.MeasureT-loop
-μ-loop sheet sum₀ k₀ sum k = records - k
+μ-loop sheet sum₀ k₀ sum k = recordsOf Flown - k
 
 loop-holds : tie.Need-loop-holds Inv-loop μ-loop
 loop-holds c = search (needs, sum-starts)

@@ -1,4 +1,4 @@
--- `sheet::refuse` meets its contract: the number's count is one more, and all else is kept; or the number has none.
+-- `sheet::refuse` meets its contract: the number's count is one more, and the others are kept; or the number has none.
 -- Assumes nothing.
 use borrow.Author.Needs.{needs}
 use Rattle.sheet.proofs.Offering.{refuses, refuses-not}
@@ -14,8 +14,8 @@ returns c = search (needs, refuses-not)
 mul-add : tie.Need-mul-add
 mul-add c = search needs
 
-element-copy-out-add : tie.Need-element-copy-out-add
-element-copy-out-add c = search needs
+array-read-add : tie.Need-array-read-add
+array-read-add c = search needs
 
 add-requires : tie.Need-add-requires
 add-requires c κs = search needs
@@ -23,8 +23,8 @@ add-requires c κs = search needs
 mul-after : tie.Need-mul-after
 mul-after c = search needs
 
-element-write-after : tie.Need-element-write-after
-element-write-after c = search needs
+array-write-after : tie.Need-array-write-after
+array-write-after c = search needs
 
 returns-2 : tie.Need-returns-2
 returns-2 c = search (needs, refuses)
@@ -36,8 +36,8 @@ refuse-spec =
     slot-requires
     returns
     mul-add
-    element-copy-out-add
+    array-read-add
     add-requires
     mul-after
-    element-write-after
+    array-write-after
     returns-2)

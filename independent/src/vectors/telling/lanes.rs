@@ -1,12 +1,16 @@
 //! Inputs for the two lanes of a source: frames whose lane was or was not heard before, and what a source shows.
 
-use super::super::frame::{fresh_header, Frame, PayloadRule, WIDEST};
+use super::super::frame::{fresh_header, widest, Frame, PayloadRule};
 use super::super::sheets::{lanes, source_input};
 use super::super::Kind;
 use crate::header::Field;
 use crate::rng::Rng;
+use crate::rules::Edition;
 use crate::sample::{flip_some, seal};
-use crate::sheet::{Lane, Sheet, FULL, SOURCES};
+use crate::sheet::{Lane, Sheet, FULL};
+
+const FLOWN: Edition = Edition::Flown;
+const SOURCES: usize = FLOWN.sources();
 
 pub(super) fn inputs(kind: Kind, rng: &mut Rng) -> Vec<Vec<u8>> {
     match kind {
@@ -19,17 +23,17 @@ pub(super) fn inputs(kind: Kind, rng: &mut Rng) -> Vec<Vec<u8>> {
 /// A frame of this source and lane, with this counter and as many flips.
 fn frame(rng: &mut Rng, src_id: usize, caller: u16, fr_cnt_tx: u8) -> Frame {
     let rule = PayloadRule::short(rng);
-    let mut header = fresh_header(rng, &rule.payload());
+    let mut header = fresh_header(rng, FLOWN, &rule.payload());
     header[Field::SrcId] = src_id as u16;
     header[Field::Caller] = caller;
     header[Field::FrCntTx] = fr_cnt_tx.into();
-    seal(&mut header, &rule.payload());
+    seal(FLOWN, &mut header, &rule.payload());
     let mut air = header.to_air();
     for flip in 0..fr_cnt_tx.min(14) {
         flip_some(rng, &mut air, flip.into(), 1);
     }
     Frame {
-        rules: WIDEST,
+        rules: widest(FLOWN),
         slice: air.to_vec(),
         rule,
     }
@@ -49,7 +53,7 @@ fn one_lane_or_both(rng: &mut Rng) -> Vec<Vec<u8>> {
         for caller in [0, 1] {
             for fr_cnt_tx in [0, 4, 5, 9, 15] {
                 let source = rng.below(SOURCES as u32) as usize;
-                let mut sheet = Sheet::new();
+                let mut sheet = Sheet::new(FLOWN);
                 sheet.sources[source].caller.last = caller_last;
                 sheet.sources[source].responder.last = responder_last;
                 let frame = frame(rng, source, caller, fr_cnt_tx);
@@ -67,7 +71,7 @@ fn filled_by_a_lane(rng: &mut Rng) -> Vec<Vec<u8>> {
         for of_caller in [0, 1, total / 2, total] {
             for caller in [0, 1] {
                 let source = rng.below(SOURCES as u32) as usize;
-                let mut sheet = Sheet::new();
+                let mut sheet = Sheet::new(FLOWN);
                 sheet.sources[source].caller.accepted = of_caller;
                 sheet.sources[source].responder.accepted = total - of_caller;
                 let frame = frame(rng, source, caller, 3);
@@ -81,7 +85,7 @@ fn filled_by_a_lane(rng: &mut Rng) -> Vec<Vec<u8>> {
 /// A sheet on which every number is another one and a sheet of the largest numbers: every source that has a record, and
 /// some that have none.
 fn shown() -> Vec<Vec<u8>> {
-    let (mut other, mut largest) = (Sheet::new(), Sheet::new());
+    let (mut other, mut largest) = (Sheet::new(FLOWN), Sheet::new(FLOWN));
     for (lane, k) in lanes(&mut other).into_iter().zip(1..) {
         *lane = Lane {
             accepted: k,

@@ -6,7 +6,7 @@ use super::super::frame::{damaged, refused, Frame};
 use super::super::Kind;
 use crate::air::WORDS;
 use crate::rng::Rng;
-use crate::rules::{Rules, LARGEST_LIMIT, USUAL_LIMIT};
+use crate::rules::{Edition, Rules, LARGEST_LIMIT, USUAL_LIMIT};
 use crate::sheet::{Sheet, COUNTS, FULL};
 use crate::word::{MOST_FLIPS, PARITY_BITS, POSITIONS};
 
@@ -26,6 +26,12 @@ const SOME: [u32; 10] = [
     256,
     u32::MAX,
 ];
+
+/// How a flown frame is read under a limit.
+fn rules(limit: u32) -> Rules {
+    let edition = Edition::Flown;
+    Rules { edition, limit }
+}
 
 pub(super) fn inputs(kind: Kind, rng: &mut Rng) -> Vec<Vec<u8>> {
     let limits: Vec<u32> = match kind {
@@ -49,7 +55,7 @@ pub(super) fn inputs(kind: Kind, rng: &mut Rng) -> Vec<Vec<u8>> {
     // Every word has a flip: 4 to 8 come after 21 and 1 to 3 before it, and all of them after 20.
     for number in 1..=8 {
         for limit in [0, WORDS as u32 - 2, LARGEST_LIMIT + 1, u32::MAX] {
-            frames.push(refused(rng, Rules { limit }, number));
+            frames.push(refused(rng, rules(limit), number));
         }
     }
     let mut inputs: Vec<_> = frames
@@ -86,7 +92,7 @@ fn flipped(rng: &mut Rng, limit: u32, total: u32, positions: Range<usize>) -> Fr
             }
         }
     }
-    damaged(rng, Rules { limit }, &patterns)
+    damaged(rng, rules(limit), &patterns)
 }
 
 /// Sheets that one frame fills and sheets that are full, by the count of each refusal, offered frames that are refused
@@ -96,7 +102,7 @@ fn nearly_full(rng: &mut Rng) -> Vec<Vec<u8>> {
     for place in 0..COUNTS {
         for count in [FULL as u32 - 1, FULL as u32] {
             for limit in [0, LARGEST_LIMIT + 1] {
-                let mut sheet = Sheet::new();
+                let mut sheet = Sheet::new(Edition::Flown);
                 sheet.refused[place] = count;
                 let frame = flipped(rng, limit, 1, 0..POSITIONS);
                 inputs.extend(frame.sheet_input(&sheet));

@@ -1,5 +1,6 @@
 //! Inputs that tell right from wrong where the mixture of a kind has few that do. They stand at its end.
 
+mod editions;
 mod lanes;
 mod limits;
 mod patterns;
@@ -15,5 +16,6 @@ pub(super) fn inputs(kind: Kind, seed: u64) -> Vec<Vec<u8>> {
     let mut inputs = patterns::inputs(kind, &mut Rng::new(seed));
     inputs.extend(limits::inputs(kind, &mut Rng::new(seed)));
     inputs.extend(lanes::inputs(kind, &mut Rng::new(seed)));
+    inputs.extend(editions::inputs(kind, &mut Rng::new(seed)));
     inputs
 }

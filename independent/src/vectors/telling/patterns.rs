@@ -2,11 +2,15 @@
 
 use std::array;
 
-use super::super::frame::{damaged, fresh_header, refused, Frame, PayloadRule, WIDEST};
+use super::super::frame::{damaged, fresh_header, refused, widest, Frame, PayloadRule};
 use super::super::Kind;
 use crate::air::WORDS;
 use crate::rng::Rng;
+use crate::rules::{Edition, Rules};
 use crate::sample::flip_some;
+
+/// How they are read.
+const FLOWN: Rules = widest(Edition::Flown);
 
 pub(super) fn inputs(kind: Kind, rng: &mut Rng) -> Vec<Vec<u8>> {
     let mut all = Vec::new();
@@ -25,10 +29,10 @@ fn one_word_damaged(rng: &mut Rng) -> Vec<Frame> {
     for word in 0..WORDS {
         for flips in 0..=4 {
             let rule = PayloadRule::short(rng);
-            let mut air = fresh_header(rng, &rule.payload()).to_air();
+            let mut air = fresh_header(rng, FLOWN.edition, &rule.payload()).to_air();
             flip_some(rng, &mut air, word, flips);
             frames.push(Frame {
-                rules: WIDEST,
+                rules: FLOWN,
                 slice: air.to_vec(),
                 rule,
             });
@@ -41,11 +45,11 @@ fn one_word_damaged(rng: &mut Rng) -> Vec<Frame> {
 fn frames(rng: &mut Rng) -> Vec<Frame> {
     let mut frames = Vec::new();
     for patterns in patterns() {
-        frames.push(damaged(rng, WIDEST, &patterns));
+        frames.push(damaged(rng, FLOWN, &patterns));
     }
     for number in 1..=8 {
         for _ in 0..4 {
-            frames.push(refused(rng, WIDEST, number));
+            frames.push(refused(rng, FLOWN, number));
         }
     }
     frames

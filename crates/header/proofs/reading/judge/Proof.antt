@@ -14,20 +14,23 @@ unpack-requires c κs = search needs
 crc5-requires : tie.Need-crc5-requires
 crc5-requires c κs = search needs
 
-cast-t12 : tie.Need-cast-t12
-cast-t12 c = search needs
+cast-t13 : tie.Need-cast-t13
+cast-t13 c = search needs
 
 returns-2 : tie.Need-returns-2
 returns-2 c = search (needs, gives-4)
 
-cast-t14 : tie.Need-cast-t14
-cast-t14 c = search needs
+last-source-requires : tie.Need-last-source-requires
+last-source-requires c κs = search needs
+
+cast-t16 : tie.Need-cast-t16
+cast-t16 c = search needs
 
 returns-3 : tie.Need-returns-3
 returns-3 c = search (needs, gives-5)
 
-cast-t16 : tie.Need-cast-t16
-cast-t16 c = search needs
+cast-t18 : tie.Need-cast-t18
+cast-t18 c = search needs
 
 returns-4 : tie.Need-returns-4
 returns-4 c = search (needs, gives-6)
@@ -42,10 +45,11 @@ judge-spec =
     returns
     unpack-requires
     crc5-requires
-    cast-t12
+    cast-t13
     returns-2
-    cast-t14
-    returns-3
+    last-source-requires
     cast-t16
+    returns-3
+    cast-t18
     returns-4
     returns-5)

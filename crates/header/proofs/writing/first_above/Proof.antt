@@ -1,30 +1,28 @@
--- `header::writing::first_above` meets its contract. Invariant: the fields before k are in range. The table is the one that its rule makes.
+-- `header::writing::first_above` meets its contract. Invariant: the fields before k are in range.
 -- Assumes nothing.
 use borrow.Author.Needs.{needs}
 use Prim.Native.Nat.{_-_}
-use Rattle.base.specs.Lists.{tabulate}
 use Rattle.header.proofs.Ranges.{Checked, over-starts, over-goes-on, over-stops, over-ends}
 use Rattle.header.proofs.writing.first_above.Statement.{statement}
 use Rattle.header.proofs.writing.first_above.Tie as tie
 
 abbrev Inv-loop : tie.InvT-loop
-Inv-loop values k₀ k = Checked values k
+Inv-loop edition values k₀ k = Checked edition values k
 
 abbrev μ-loop : tie.MeasureT-loop
-μ-loop values k₀ k = 14 - k
+μ-loop edition values k₀ k = 14 - k
 
 loop-holds : tie.Need-loop-holds Inv-loop μ-loop
 loop-holds c = search (needs, over-starts)
 
+most-requires : tie.Need-most-requires Inv-loop μ-loop
+most-requires c κs = search needs
+
 array-read-if1 : tie.Need-array-read-if1 Inv-loop μ-loop
 array-read-if1 c = search needs
 
-array-read-if1-2 : tie.Need-array-read-if1-2 Inv-loop μ-loop
-array-read-if1-2 c = search needs
-
 returns : tie.Need-returns Inv-loop μ-loop
-unfolding tabulate
-returns c = over-stops (c .before .before .before .args .t1) (c .before .before .loop .k) (c .before .before .loop .inv) (c .before .loop-test .taken) (c .if1 .taken)
+returns c = search (needs, over-stops)
 
 add-k : tie.Need-add-k Inv-loop μ-loop
 add-k c = search needs
@@ -33,8 +31,7 @@ loop-less : tie.Need-loop-less Inv-loop μ-loop
 loop-less c = search needs
 
 loop-again : tie.Need-loop-again Inv-loop μ-loop
-unfolding tabulate
-loop-again c = over-goes-on (c .before .before .before .args .t1) (c .before .before .loop .k) (c .before .before .loop .inv) (c .before .loop-test .taken) (c .if1 .left)
+loop-again c = search (needs, over-goes-on)
 
 returns-2 : tie.Need-returns-2 Inv-loop μ-loop
 returns-2 c = search (needs, over-ends)
@@ -46,8 +43,8 @@ first-above-spec =
     Inv-loop
     μ-loop
     loop-holds
+    most-requires
     array-read-if1
-    array-read-if1-2
     returns
     add-k
     loop-less

@@ -1,8 +1,7 @@
 -- `header::writing::first_over` meets its contract: the values are those of the fields.
 -- Assumes nothing.
-use mathlib.Core.Path.{ap, _∙_}
 use borrow.Author.Needs.{needs}
-use Rattle.header.specs.Writing.{firstOver}
+use Rattle.header.proofs.Ranges.{over-values}
 use Rattle.header.proofs.writing.first_over.Statement.{statement}
 use Rattle.header.proofs.writing.first_over.Tie as tie
 
@@ -13,7 +12,7 @@ first-above-requires : tie.Need-first-above-requires
 first-above-requires c κs = search needs
 
 returns : tie.Need-returns
-returns c = c .first-above .ensures ∙ ap firstOver (c .before .values .ensures)
+returns c = search (needs, over-values)
 
 pub first-over-spec : {M : Type 1} → statement M
 first-over-spec = tie.close (tie.spec values-requires first-above-requires returns)

@@ -1,12 +1,9 @@
--- `list::main` is safe: the buffers have room.
+-- `list::run` is safe: the buffers have room.
 -- Assumes nothing.
 use borrow.Author.Needs.{needs}
 use Rattle.listing.proofs.Keeping.{put-size}
-use Rattle.list.proofs.main.Statement.{statement}
-use Rattle.list.proofs.main.Tie as tie
-
-arg-count-requires : tie.Need-arg-count-requires
-arg-count-requires c κs = search needs
+use Rattle.list.proofs.run.Statement.{statement}
+use Rattle.list.proofs.run.Tie as tie
 
 whole-requires : tie.Need-whole-requires
 whole-requires c κs = search needs
@@ -39,7 +36,7 @@ slice-aggregate-list-2 : tie.Need-slice-aggregate-list-2
 slice-aggregate-list-2 c = search needs
 
 list-requires : tie.Need-list-requires
-list-requires c κs = search needs
+list-requires c κs = (search needs, (search needs, (search needs, search needs)))
 
 returns : tie.Need-returns
 returns c = search needs
@@ -47,11 +44,10 @@ returns c = search needs
 returns-2 : tie.Need-returns-2
 returns-2 c = search needs
 
-pub main-spec : {M : Type 1} → statement M
-main-spec =
+pub run-spec : {M : Type 1} → statement M
+run-spec =
     tie.close
     (tie.spec
-    arg-count-requires
     whole-requires
     large-buffer-requires
     large-buffer-requires-2
