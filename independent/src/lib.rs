@@ -1,6 +1,6 @@
 //! S-NET and SALSAT air headers, power pages and the pass sheet.
 //!
-//! A second implementation of paper 01 and of requests b, d, f, g and m of paper 02, written from the
+//! A second implementation of paper 01 and of requests b, d, f, g, m and n of paper 02, written from the
 //! papers alone, so that two programs that share no thought can be compared line by line. It prefers the
 //! plain way over the quick one: words are repaired by trying all 32 valid words, checksums run bit by bit.
 //!
@@ -17,10 +17,12 @@
 //! | [`shown`] | the shown value, with its third term (16) |
 //! | [`sheet`] | the pass sheet (17, 22), what it counts, its lanes |
 //! | [`listing`] | the listing |
+//! | [`catches`] | what CRC5 alone catches |
 //!
 //! The rest makes material to compare with: [`rng`], [`sample`], [`season`], [`example`], [`vectors`].
 
 pub mod air;
+pub mod catches;
 pub mod crc;
 pub mod example;
 pub mod frame;

@@ -7,6 +7,7 @@ use std::io::{self, BufReader, BufWriter, ErrorKind, Read, StdoutLock, Write};
 use std::path::Path;
 use std::process::ExitCode;
 
+use independent::catches::write_catches;
 use independent::example::write_example;
 use independent::header::LONGEST_PAYLOAD;
 use independent::listing::{list, Failure};
@@ -32,6 +33,7 @@ usage: independent COMMAND ..
                              header   a record that ends in its header bytes
                              payload  a record that ends in its payload
   example                  the records of a small example pass
+  catches                  which changes of a header CRC5 does not see, and what CRC13 does not
   vectors KIND [SEED]      a line for each input of KIND
   inputs KIND [SEED]       the inputs themselves, in binary
   replies KIND [SEED]      the replies to them, in binary
@@ -106,6 +108,10 @@ fn run(arguments: &[OsString], out: &mut Output) -> Result<bool, Stop> {
         Some("example") => {
             no_more(rest)?;
             write_example(out)
+        }
+        Some("catches") => {
+            no_more(rest)?;
+            write_catches(out)
         }
         Some("vectors") => {
             let (kind, seed) = vector_arguments(rest)?;

@@ -108,6 +108,7 @@ fn vectors_example_and_help_are_printed() {
     assert_eq!(run(&["inputs", "words", "7"], &[]).stdout.len(), 131_072);
     assert_eq!(run(&["replies", "encode"], &[]).stdout.len(), 96);
     assert!(!run(&["example"], &[]).stdout.is_empty());
+    assert!(run(&["catches"], &[]).stdout.starts_with(b"crc5 flown\n"));
     assert!(run(&["help"], &[]).stdout.starts_with(b"usage: "));
 }
 
@@ -145,7 +146,7 @@ fn replies_in_files_are_compared() {
 
 #[test]
 fn bad_arguments_are_told_with_status_2() {
-    let bad: [&[&str]; 20] = [
+    let bad: [&[&str]; 21] = [
         &[],
         &["lists"],
         &["season"],
@@ -166,6 +167,7 @@ fn bad_arguments_are_told_with_status_2() {
         &["compare", "words", "inputs"],
         &["compare", "nothing", "inputs", "replies"],
         &["example", "2"],
+        &["catches", "crc5"],
     ];
     for arguments in bad {
         let output = run(arguments, &[]);

@@ -78,3 +78,10 @@ pub one-of-four : (n k : ℕ) → 32 ≤ k → k < 36 → headerBit n k ≡ 1 �
 one-of-four n k h l set all =
     let zero-is-one : _≡_ {A = ℕ} 0 1 = sym (flown-lost n k h l) ∙ ap (λ (x : ℕ). headerBit x k) all ∙ set in
     absurd (omega arith)
+
+-- under the corrected edition a change of the four, and of no other bit, is seen
+pub change-seen : (n v : ℕ) → v < 16 → crc5Of Corrected (bitXor n (v * 2 ^ 34)) ≡ crc5Of Corrected n → v ≡ 0
+unfolding crc5Of fourIn
+change-seen n v small same =
+    four-seen v small
+    (sym (xor-back (crc5Over n) (fourIn v)) ∙ ap (bitXor (crc5Over n)) (sym (over-linear n (v * 2 ^ 34)) ∙ same) ∙ xor-self (crc5Over n))

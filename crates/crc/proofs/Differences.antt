@@ -36,10 +36,10 @@ module _ (w p : ℕ) (fits : p < 2 ^ w) (f g : ℕ → ℕ) where
       (crc-lt w p fits c (bitsOf byteBits (f k)) hc) (crc-lt w p fits d (bitsOf byteBits (g k)) hd)
 
 -- nine bytes, the last first
-lastFirst : List ℕ
+unfoldable pub lastFirst : List ℕ
 lastFirst = 8 ∷ 7 ∷ 6 ∷ 5 ∷ 4 ∷ 3 ∷ 2 ∷ 1 ∷ 0 ∷ []
 
-nine-turned : (f : ℕ → ℕ) → reverse (tabulate 9 f) ≡ map f lastFirst
+pub nine-turned : (f : ℕ → ℕ) → reverse (tabulate 9 f) ≡ map f lastFirst
 unfolding tabulate lastFirst
 nine-turned f = refl
 

@@ -12,7 +12,7 @@ use Rattle.base.specs.declared.Edition.the-variants.{Flown, Corrected}
 use Rattle.base.proofs.Xor.{high-none}
 use Rattle.base.proofs.Tests.{lt-or-ge}
 use Rattle.crc.specs.Crc.{bitsOf}
-use Rattle.crc.specs.Crc5.{headerBit, filling, countedFlown, countingBits}
+use Rattle.crc.specs.Crc5.{headerBit, filling, countedFlown, countingBits, Counts, Lost}
 use Rattle.base.proofs.Bits.{bit-of-low, bit-below, shift-above}
 use Rattle.crc.proofs.Nine.{bitIn, byte-bit, message-header, message-filling}
 
@@ -50,16 +50,6 @@ module _ (n : ℕ) where
     -- the others count as they are
     pub flown-kept : (k < 32) ⊎ (36 ≤ k) → headerBit (countedFlown n) k ≡ headerBit n k
     flown-kept = ⊎-elim before after
-
--- whether header bit k counts: under the flown edition all but 32 to 35 do
-abbrev pub Counts : Edition → ℕ → Type 0
-Counts Flown k = (k < 32) ⊎ (36 ≤ k)
-Counts Corrected k = Unit {0}
-
--- and whether it does not
-abbrev pub Lost : Edition → ℕ → Type 0
-Lost Flown k = (32 ≤ k) × (k < 36)
-Lost Corrected k = ⊥
 
 -- THE TWO EDITIONS, bit by bit: what counts counts as it is, the rest as zero, and there is no third
 pub counting-kept : (edition : Edition) (n k : ℕ) → Counts edition k → headerBit (countingBits edition n) k ≡ headerBit n k

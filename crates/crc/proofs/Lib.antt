@@ -8,3 +8,7 @@ pub mod TwoNumbers
 pub mod Unseen
 pub mod Differences
 pub mod Apart
+pub mod Parity
+pub mod OddChanges
+pub mod FourBits
+pub mod Order178

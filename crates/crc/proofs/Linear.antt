@@ -78,7 +78,7 @@ module _ (w p : ℕ) where
   unfolding crcStep top moved
   step-sum crc bit hc hb = by-sum p (crc % 2 ^ (w - 1) * 2) (crc / 2 ^ (w - 1)) bit (top-lt crc hc) hb
 
-  step-linear : (c d a b : ℕ) → c < 2 ^ w → d < 2 ^ w → a < 2 → b < 2
+  pub step-linear : (c d a b : ℕ) → c < 2 ^ w → d < 2 ^ w → a < 2 → b < 2
       → crcStep w p (bitXor c d) (bitXor a b) ≡ bitXor (crcStep w p c a) (crcStep w p d b)
   step-linear c d a b hc hd ha hb =
       step-sum (bitXor c d) (bitXor a b) (xor-lt w c d hc hd) (xor-lt 1 a b ha hb)

@@ -10,10 +10,10 @@ use Rattle.base.specs.declared.Edition.{Edition}
 use Rattle.base.proofs.Tests.{lt-or-ge}
 use Rattle.base.proofs.Tabulate.{tabulate-same}
 use Rattle.crc.specs.Crc.{crcOf, bitsOfBytes}
-use Rattle.crc.specs.Crc5.{headerBit, countingBits, message, nineBytes, poly5, start5, crc5Over, crc5Of}
+use Rattle.crc.specs.Crc5.{headerBit, countingBits, message, nineBytes, poly5, start5, crc5Over, crc5Of, Counts, Lost}
 use Rattle.base.proofs.Sums.{same-bits}
 use Rattle.crc.proofs.Nine.{messageBit, header-above, message-header, message-filling}
-use Rattle.crc.proofs.Editions.{Counts, Lost, counting-kept, counting-lost, counts-or-lost}
+use Rattle.crc.proofs.Editions.{counting-kept, counting-lost, counts-or-lost}
 
 module _ (n m : ℕ) where
   -- two headers whose bits 0 to 64 are the same have the same message

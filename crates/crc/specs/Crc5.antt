@@ -1,7 +1,10 @@
 -- CRC5 of a header, whose 70 bits are one number: header bit 0 is the most significant.
 -- Assumes nothing.
+use mathlib.Core.Bool.{Bool, not}
 use mathlib.Core.List.{List, [], _∷_, reverse}
-use Prim.Native.Nat.{ℕ, _+_, _-_, _*_, _/_, _%_, _^_}
+use mathlib.Core.Logic.{_⊎_}
+use Prim.Native.Nat.{ℕ, _+_, _-_, _*_, _/_, _%_, _^_, _≤_, _<_}
+use lib.Dec.{eqb}
 use lib.ListN.{set}
 use Rattle.base.specs.declared.Edition.{Edition}
 use Rattle.base.specs.declared.Edition.the-variants.{Flown, Corrected}
@@ -16,6 +19,10 @@ headerWidth = 70
 -- header bit k
 abbrev pub headerBit : ℕ → ℕ → ℕ
 headerBit n k = n / 2 ^ (headerWidth - 1 - k) % 2
+
+-- whether two headers differ in bit k
+abbrev pub changedIn : ℕ → ℕ → ℕ → Bool
+changedIn n m k = not (eqb (headerBit n k) (headerBit m k))
 
 -- "CRC5: polynomial 0x15 (x^5 implied), start 0x1F, no final change."
 abbrev pub poly5 : ℕ
@@ -57,3 +64,13 @@ countingBits Corrected n = n
 
 unfoldable pub crc5Of : Edition → ℕ → ℕ
 crc5Of edition n = crc5Over (countingBits edition n)
+
+-- that header bit k counts: under the flown edition all but 32 to 35 do
+abbrev pub Counts : Edition → ℕ → Type 0
+Counts Flown k = (k < 32) ⊎ (36 ≤ k)
+Counts Corrected k = Unit {0}
+
+-- and that it does not
+abbrev pub Lost : Edition → ℕ → Type 0
+Lost Flown k = (32 ≤ k) × (k < 36)
+Lost Corrected k = ⊥

@@ -4,5 +4,6 @@ pub mod Demand3
 pub mod Lanes
 pub mod LongBurst
 pub mod Editions
+pub mod Catches
 pub mod Marked
 pub mod Determined

@@ -3,7 +3,7 @@
 use mathlib.Core.Path.{_≡_, sym, ap, _∙_}
 use mathlib.Core.List.{List, [], _∷_, _++_}
 use Prim.Native.Nat.{ℕ, _+_, _*_, _%_, _<_, _^_}
-use native.Mathlib.Nat.{mod-eq-of-lt, zero-add}
+use native.Mathlib.Nat.{div-one, mod-eq-of-lt, zero-add}
 use Rattle.base.specs.Parts.{partsOf, joined}
 use Rattle.base.proofs.Joined.{parts-append, join-parts}
 use Rattle.header.specs.declared.Header.{Header}
@@ -23,3 +23,8 @@ valuesIn h = valuesOf (h .«fields») ++ (h .«pdu_length» ∷ h .«crc13» ∷
 pub header-bits : (n : ℕ) → n < 2 ^ headerWidth → joined widths (valuesIn (headerOf n)) ≡ n
 unfolding headerOf
 header-bits n small = join-parts 0 widths n ∙ zero-add (n % 2 ^ 70) ∙ mod-eq-of-lt small
+
+-- the CRC5 that a header carries is its last five bits
+pub crc5-carried : (n : ℕ) → headerOf n .«crc5» ≡ n % 2 ^ 5
+unfolding headerOf
+crc5-carried n = ap (λ (x : ℕ). x % 2 ^ 5) (div-one n)
