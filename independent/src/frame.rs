@@ -1,13 +1,18 @@
-//! A frame: header and payload judged together (refusals 20, 1 to 8, 21).
+//! A frame: header and payload judged together (refusals 20, 1 to 8, 21, 23, 24).
 
 use crate::crc::crc13;
 use crate::header::{read_header, Field, Heard};
 use crate::refusal::Refusal;
 use crate::rules::Rules;
 
-/// Reads a frame: the header's refusals first, then those of its payload.
-pub fn read_frame(rules: Rules, air: &[u8], payload: &[u8]) -> Result<Heard, Refusal> {
-    let heard = read_header(rules, air)?;
+/// Reads a frame, with its call sign bits where they are given: the header's refusals first, then those of its payload.
+pub fn read_frame(
+    rules: Rules,
+    call: Option<&[u8]>,
+    air: &[u8],
+    payload: &[u8],
+) -> Result<Heard, Refusal> {
+    let heard = read_header(rules, call, air)?;
     // 7: "payload length is not PduLength", PduLength
     let pdu_length = heard.header[Field::PduLength];
     if payload.len() != usize::from(pdu_length) {

@@ -1,8 +1,9 @@
-//! The 70 header bits: fields, CRC5, the reader (refusals 20, 1 to 6, 21) and the writer (13 to 15).
+//! The 70 header bits: fields, CRC5, the reader (refusals 20, 1 to 6, 21, 23, 24) and the writer (13 to 15).
 
 use std::ops::{Index, IndexMut};
 
 use crate::air::{air_of, words_of, AIR_BITS, WORDS};
+use crate::call_sign::{call_sign_bits, CALL_SIGN_BITS};
 use crate::crc::{crc13, CRC5};
 use crate::refusal::Refusal;
 use crate::rules::{Edition, Rules, LARGEST_LIMIT};
@@ -175,8 +176,8 @@ impl Heard {
     }
 }
 
-/// Reads a header off the air.
-pub fn read_header(rules: Rules, air: &[u8]) -> Result<Heard, Refusal> {
+/// Reads a header off the air. The call sign bits may be given: "without them a frame is judged as before".
+pub fn read_header(rules: Rules, call: Option<&[u8]>, air: &[u8]) -> Result<Heard, Refusal> {
     // 20: "limit above 42, before 1", the limit
     if rules.limit > LARGEST_LIMIT {
         return Err(Refusal::new(20, rules.limit as usize));
@@ -188,6 +189,17 @@ pub fn read_header(rules: Rules, air: &[u8]) -> Result<Heard, Refusal> {
     // 2: "an element is above 1", lowest index
     if let Some(index) = air.iter().position(|&element| element > 1) {
         return Err(Refusal::new(2, index));
+    }
+    // "Under the corrected edition they aren't looked at."
+    let call = call.filter(|_| rules.edition == Edition::Flown);
+    // 23: "not 48 elements or one above 1, after 2 and before 3", the length, or the first bad index
+    if let Some(call) = call {
+        if call.len() != CALL_SIGN_BITS {
+            return Err(Refusal::new(23, call.len()));
+        }
+        if let Some(index) = call.iter().position(|&element| element > 1) {
+            return Err(Refusal::new(23, index));
+        }
     }
     // 3: "a word is beyond repair", lowest word
     let mut bits = 0;
@@ -213,6 +225,10 @@ pub fn read_header(rules: Rules, air: &[u8]) -> Result<Heard, Refusal> {
     let src_id = header[Field::SrcId];
     if rules.edition == Edition::Flown && src_id > Edition::Flown.largest_src_id() {
         return Err(Refusal::new(5, src_id));
+    }
+    // 24: "disagreement, after 5 and before 6", SrcId; satellite A, B, C, D is SrcId div 2
+    if call.is_some_and(|call| call != call_sign_bits(usize::from(src_id / 2))) {
+        return Err(Refusal::new(24, src_id));
     }
     // 6: "AiTypeSrc above 3", AiTypeSrc
     let ai_type_src = header[Field::AiTypeSrc];

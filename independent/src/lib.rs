@@ -1,17 +1,18 @@
 //! S-NET and SALSAT air headers, power pages and the pass sheet.
 //!
-//! A second implementation of paper 01 and of requests b, d, f, g, m and n of paper 02, written from the
-//! papers alone, so that two programs that share no thought can be compared line by line. It prefers the
-//! plain way over the quick one: words are repaired by trying all 32 valid words, checksums run bit by bit.
+//! A second implementation of paper 01 and of requests b, d to g, m and n of paper 02, written from the papers
+//! alone, so that two programs that share no thought can be compared line by line. It prefers the plain
+//! way over the quick one: words are repaired by trying all 32 valid words, checksums run bit by bit.
 //!
 //! | module | part of the papers |
 //! |---|---|
 //! | [`refusal`] | "a refusal carries number and place only" |
 //! | [`rules`] | how a frame is read: its edition, the limit on its flips |
 //! | [`word`] | valid words, repair with its flip pattern |
+//! | [`call_sign`] | the four call signs and their bits |
 //! | [`air`] | 210 elements on air, fourteen words |
 //! | [`crc`] | CRC13, and the bit-by-bit rule of both checksums |
-//! | [`header`] | fields, CRC5, header read (20, 1 to 6, 21) and written (13 to 15), the worst word |
+//! | [`header`] | fields, CRC5, header read (20, 1 to 6, 21, 23, 24) and written (13 to 15), the worst word |
 //! | [`frame`] | header and payload together (7, 8) |
 //! | [`page`] | payload header, power page read (9 to 12) and written (18) |
 //! | [`shown`] | the shown value, with its third term (16) |
@@ -22,6 +23,7 @@
 //! The rest makes material to compare with: [`rng`], [`sample`], [`season`], [`example`], [`vectors`].
 
 pub mod air;
+pub mod call_sign;
 pub mod catches;
 pub mod crc;
 pub mod example;

@@ -1,5 +1,6 @@
 //! The listing of a pass: records in, a line for each out.
 
+use std::fmt;
 use std::io::{self, ErrorKind, Read, Write};
 
 use crate::air::AIR_BITS;
@@ -72,22 +73,25 @@ fn list_record(
     record: &RecordBuffer,
     output: &mut impl Write,
 ) -> io::Result<bool> {
-    // "The listing names 42 and prints what it did."
+    // "The listing names 42 and prints what it did." A record has no call sign bits.
     let rules = Rules {
         edition: sheet.edition,
         limit: LARGEST_LIMIT,
     };
     let payload = record.payload();
-    match sheet.offer(rules, &record.header, payload) {
+    match sheet.offer(rules, None, &record.header, payload) {
         Ok(heard) => {
-            write!(output, "{number} accepted ")?;
-            write_source(sheet.edition, heard.header[Field::SrcId], output)?;
+            let sender = Sender {
+                edition: sheet.edition,
+                src_id: heard.header[Field::SrcId],
+            };
             let tx = heard.header[Field::FrCntTx];
             let (flips, worst) = (heard.flips(), heard.worst());
             let bytes = payload.len();
             writeln!(
                 output,
-                " tx {tx} repaired {flips} worst {worst} bytes {bytes}"
+                "{number} accepted {sender} tx {tx} \
+                 repaired {flips} worst {worst} bytes {bytes}"
             )?;
         }
         Err(Refusal { number: 17, .. }) => return Ok(false),
@@ -96,16 +100,24 @@ fn list_record(
     Ok(true)
 }
 
-/// Who sent a frame: a corrected one "is given to no S-NET satellite: the listing writes `source 97` where it wrote
-/// `B radio 2`".
-fn write_source(edition: Edition, src_id: u16, output: &mut impl Write) -> io::Result<()> {
-    match edition {
-        Edition::Flown => {
-            let satellite = ['A', 'B', 'C', 'D'][usize::from(src_id / 2)];
-            let radio = src_id % 2 + 1;
-            write!(output, "{satellite} radio {radio}")
+/// Who sent a frame, as the listing writes it.
+struct Sender {
+    edition: Edition,
+    src_id: u16,
+}
+
+/// A corrected frame "is given to no S-NET satellite: the listing writes `source 97` where it wrote `B radio 2`".
+impl fmt::Display for Sender {
+    fn fmt(&self, f: &mut fmt::Formatter) -> fmt::Result {
+        let src_id = self.src_id;
+        match self.edition {
+            Edition::Flown => {
+                let satellite = ['A', 'B', 'C', 'D'][usize::from(src_id / 2)];
+                let radio = src_id % 2 + 1;
+                write!(f, "{satellite} radio {radio}")
+            }
+            Edition::Corrected => write!(f, "source {src_id}"),
         }
-        Edition::Corrected => write!(output, "source {src_id}"),
     }
 }
 

@@ -5,11 +5,12 @@ use crate::header::{Field, Heard};
 use crate::refusal::Refusal;
 use crate::rules::{Edition, Rules};
 
-/// "A count for each of the refusals 1 to 8"; of 20 and 21, "the sheet counts both".
-pub const COUNTED: [u8; COUNTS] = [1, 2, 3, 4, 5, 6, 7, 8, 20, 21];
+/// "A count for each of the refusals 1 to 8"; of 20 and 21, "the sheet counts both"; 23 and 24, "both are counted by the
+/// sheet".
+pub const COUNTED: [u8; COUNTS] = [1, 2, 3, 4, 5, 6, 7, 8, 20, 21, 23, 24];
 
 /// The number of counts.
-pub const COUNTS: usize = 10;
+pub const COUNTS: usize = 12;
 
 /// "After 65,535 offered frames the sheet is full."
 pub const FULL: usize = 65_535;
@@ -134,7 +135,13 @@ impl Sheet {
     }
 
     /// Offers a frame: what the reader says of it is counted, and answered.
-    pub fn offer(&mut self, rules: Rules, air: &[u8], payload: &[u8]) -> Result<Heard, Refusal> {
+    pub fn offer(
+        &mut self,
+        rules: Rules,
+        call: Option<&[u8]>,
+        air: &[u8],
+        payload: &[u8],
+    ) -> Result<Heard, Refusal> {
         // 17: "sheet full, checked before anything else, sheet unchanged", place 65,535
         if self.is_full() {
             return Err(Refusal::new(17, FULL));
@@ -144,7 +151,7 @@ impl Sheet {
         if rules.edition != self.edition {
             return Err(Refusal::new(22, 0usize));
         }
-        let answer = read_frame(rules, air, payload);
+        let answer = read_frame(rules, call, air, payload);
         match &answer {
             Ok(heard) => {
                 let source = &mut self.sources[usize::from(heard.header[Field::SrcId])];
@@ -253,10 +260,10 @@ mod tests {
             source.responder.accepted = u32::MAX;
         }
         sheet.refused = [u32::MAX; COUNTS];
-        assert_eq!(sheet.offered(), 26 * u64::from(u32::MAX));
+        assert_eq!(sheet.offered(), 28 * u64::from(u32::MAX));
         let before = sheet.clone();
         assert_eq!(
-            sheet.offer(usual(Edition::Flown), &[], &[]),
+            sheet.offer(usual(Edition::Flown), None, &[], &[]),
             Err(Refusal::new(17, FULL))
         );
         assert_eq!(sheet, before);

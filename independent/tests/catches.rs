@@ -26,7 +26,7 @@ fn right_header(rng: &mut Rng, edition: Edition) -> Header {
 /// Whether the reader refuses a header for its CRC5.
 fn refused_with_4(edition: Edition, air: &[u8; AIR_BITS]) -> bool {
     let rules = Rules { edition, limit: 0 };
-    read_header(rules, air).is_err_and(|refusal| refusal.number == 4)
+    read_header(rules, None, air).is_err_and(|refusal| refusal.number == 4)
 }
 
 /// A change of any bits, by chance.

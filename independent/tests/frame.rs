@@ -1,6 +1,7 @@
 //! Headers and frames, written and read: each refusal, its order and place, and what damage does.
 
 use independent::air::{AIR_BITS, WORDS};
+use independent::call_sign::call_sign_bits;
 use independent::crc::crc13;
 use independent::frame::read_frame;
 use independent::header::{
@@ -78,13 +79,13 @@ fn what_is_written_is_read_back_under_the_same_edition() {
         for length in (0..=1_023).step_by(11) {
             let (given, payload) = (given_under(edition, &mut rng), rng.bytes(length));
             let air = written_under(edition, &given, &payload);
-            let heard = read_frame(usual(edition), &air, &payload).unwrap();
+            let heard = read_frame(usual(edition), None, &air, &payload).unwrap();
             assert_eq!(heard.patterns, [0; WORDS]);
             assert_eq!(heard.header.values[..GIVEN], given);
             assert_eq!(usize::from(heard.header[Field::PduLength]), length);
             assert_eq!(heard.header[Field::Crc13], crc13(&payload));
             assert_eq!(heard.header[Field::Crc5], heard.header.crc5(edition));
-            assert_eq!(read_header(usual(edition), &air), Ok(heard));
+            assert_eq!(read_header(usual(edition), None, &air), Ok(heard));
         }
     }
 }
@@ -102,8 +103,8 @@ fn up_to_three_flips_a_word_are_undone_counted_and_told() {
             flip_some(&mut rng, &mut air, word, count);
             flips += count;
         }
-        let header = read_frame(WIDEST, &clean, &payload).unwrap().header;
-        let heard = read_frame(WIDEST, &air, &payload).unwrap();
+        let header = read_frame(WIDEST, None, &clean, &payload).unwrap().header;
+        let heard = read_frame(WIDEST, None, &air, &payload).unwrap();
         let patterns = flipped(&clean, &air);
         assert_eq!(heard, Heard { header, patterns });
         assert_eq!(heard.flips(), flips);
@@ -118,7 +119,7 @@ fn air_bit_14_i_plus_j_is_bit_i_of_pattern_j() {
         air[n] ^= 1;
         let mut patterns = [0; WORDS];
         patterns[n % 14] = 1 << (n / 14);
-        let heard = read_header(WIDEST, &air).unwrap();
+        let heard = read_header(WIDEST, None, &air).unwrap();
         assert_eq!(heard.patterns, patterns);
         assert_eq!((heard.flips(), heard.worst()), (1, n % 14));
     }
@@ -142,7 +143,7 @@ fn marked_words_in_a_header_give_their_patterns() {
             assert_eq!(u16::from(*bit), word >> position & 1);
             *bit = (received >> position & 1) as u8;
         }
-        let heard = read_frame(WIDEST, &air, &[]).unwrap();
+        let heard = read_frame(WIDEST, None, &air, &[]).unwrap();
         assert_eq!(heard.patterns, patterns);
         assert_eq!(heard.flips(), pattern.count_ones());
         assert_eq!(heard.worst(), usize::from(pattern != 0));
@@ -152,7 +153,7 @@ fn marked_words_in_a_header_give_their_patterns() {
 #[test]
 fn flips_in_parity_positions_are_told_as_others_are() {
     let clean = written(&given(&mut Rng::new(13)), &[]);
-    let header = read_header(WIDEST, &clean).unwrap().header;
+    let header = read_header(WIDEST, None, &clean).unwrap().header;
     let mut air = clean;
     let mut patterns = [0; WORDS];
     // Positions 0 to 9 are parity: of words 8 and 9 nothing else, of word 3 none.
@@ -160,7 +161,7 @@ fn flips_in_parity_positions_are_told_as_others_are() {
     for (word, &pattern) in patterns.iter().enumerate() {
         flip_pattern(&mut air, word, pattern);
     }
-    let heard = read_header(WIDEST, &air).unwrap();
+    let heard = read_header(WIDEST, None, &air).unwrap();
     assert_eq!(heard, Heard { header, patterns });
     assert_eq!((heard.flips(), heard.worst()), (8, 8));
 }
@@ -173,7 +174,7 @@ fn three_flips_in_every_word_are_42() {
         for word in 0..WORDS {
             flip_some(&mut rng, &mut air, word, 3);
         }
-        let heard = read_frame(WIDEST, &air, &[]).unwrap();
+        let heard = read_frame(WIDEST, None, &air, &[]).unwrap();
         assert_eq!(heard.patterns.map(u16::count_ones), [3; WORDS]);
         assert_eq!((heard.flips(), heard.worst()), (42, 0));
     }
@@ -183,12 +184,12 @@ fn three_flips_in_every_word_are_42() {
 fn a_burst_of_42_neighbours_is_undone_wherever_it_stands() {
     let mut rng = Rng::new(4);
     let clean = written(&given(&mut rng), &[]);
-    let header = read_header(WIDEST, &clean).unwrap().header;
+    let header = read_header(WIDEST, None, &clean).unwrap().header;
     for length in 0..=42 {
         for start in 0..=AIR_BITS - length {
             let mut air = clean;
             burst(&mut air, start, length);
-            let heard = read_header(WIDEST, &air).unwrap();
+            let heard = read_header(WIDEST, None, &air).unwrap();
             let patterns = flipped(&clean, &air);
             assert_eq!(heard, Heard { header, patterns });
             assert_eq!(heard.flips() as usize, length);
@@ -204,27 +205,30 @@ fn a_burst_of_42_neighbours_is_undone_wherever_it_stands() {
 fn a_burst_of_43_neighbours_is_never_undone() {
     let mut rng = Rng::new(5);
     let clean = written(&given(&mut rng), &[]);
-    let header = read_header(WIDEST, &clean).unwrap().header;
+    let header = read_header(WIDEST, None, &clean).unwrap().header;
     for start in 0..=AIR_BITS - 43 {
         let mut air = clean;
         burst(&mut air, start, 43);
         assert_ne!(
-            read_header(WIDEST, &air).map(|heard| heard.header),
+            read_header(WIDEST, None, &air).map(|heard| heard.header),
             Ok(header)
         );
     }
     // The first of them gives word 0 the pattern 0x000F, which is beyond repair.
     let mut air = clean;
     burst(&mut air, 0, 43);
-    assert_eq!(read_header(WIDEST, &air), refusal(3, 0));
+    assert_eq!(read_header(WIDEST, None, &air), refusal(3, 0));
 }
 
 #[test]
 fn refusal_1_is_another_length() {
     for length in (0..AIR_BITS).chain(AIR_BITS + 1..300) {
-        assert_eq!(read_header(WIDEST, &vec![0; length]), refusal(1, length));
         assert_eq!(
-            read_frame(WIDEST, &vec![7; length], &[1]),
+            read_header(WIDEST, None, &vec![0; length]),
+            refusal(1, length)
+        );
+        assert_eq!(
+            read_frame(WIDEST, None, &vec![7; length], &[1]),
             refusal(1, length)
         );
     }
@@ -237,15 +241,15 @@ fn refusal_2_is_the_lowest_element_above_1() {
             let mut air = [1; AIR_BITS];
             air[index] = value;
             air[AIR_BITS - 1] = value;
-            assert_eq!(read_header(WIDEST, &air), refusal(2, index));
+            assert_eq!(read_header(WIDEST, None, &air), refusal(2, index));
         }
     }
     // before 3
     let mut air = [0; AIR_BITS];
     flip_pattern(&mut air, 0, 0x000F);
-    assert_eq!(read_header(WIDEST, &air), refusal(3, 0));
+    assert_eq!(read_header(WIDEST, None, &air), refusal(3, 0));
     air[AIR_BITS - 1] = 2;
-    assert_eq!(read_header(WIDEST, &air), refusal(2, AIR_BITS - 1));
+    assert_eq!(read_header(WIDEST, None, &air), refusal(2, AIR_BITS - 1));
 }
 
 #[test]
@@ -253,15 +257,15 @@ fn refusal_3_is_the_lowest_word_beyond_repair() {
     for word in 0..WORDS {
         let mut air = sealed(&[], |_| {});
         flip_pattern(&mut air, word, 0x000F);
-        assert_eq!(read_header(WIDEST, &air), refusal(3, word));
+        assert_eq!(read_header(WIDEST, None, &air), refusal(3, word));
         flip_pattern(&mut air, WORDS - 1, if word < 13 { 0x000F } else { 0 });
-        assert_eq!(read_header(WIDEST, &air), refusal(3, word));
+        assert_eq!(read_header(WIDEST, None, &air), refusal(3, word));
     }
 }
 
 #[test]
 fn refusal_4_gives_the_crc5_worked_out() {
-    assert_eq!(read_header(WIDEST, &[0; AIR_BITS]), refusal(4, 6));
+    assert_eq!(read_header(WIDEST, None, &[0; AIR_BITS]), refusal(4, 6));
     for wrong in 1..32 {
         let mut header = Header::default();
         header[Field::SrcId] = 100;
@@ -269,7 +273,7 @@ fn refusal_4_gives_the_crc5_worked_out() {
         let right = header.crc5(Edition::Flown);
         header[Field::Crc5] = right ^ wrong;
         assert_eq!(
-            read_header(WIDEST, &header.to_air()),
+            read_header(WIDEST, None, &header.to_air()),
             refusal(4, right.into())
         );
     }
@@ -293,7 +297,7 @@ fn with_flips(rng: &mut Rng, clean: &[u8; AIR_BITS], total: u32) -> [u8; AIR_BIT
 fn refusal_21_is_a_total_of_flips_above_the_limit() {
     let mut rng = Rng::new(14);
     let clean = written(&given(&mut rng), &[]);
-    let header = read_header(WIDEST, &clean).unwrap().header;
+    let header = read_header(WIDEST, None, &clean).unwrap().header;
     for limit in 0..=42 {
         for total in 0..=42 {
             let air = with_flips(&mut rng, &clean, total);
@@ -303,8 +307,8 @@ fn refusal_21_is_a_total_of_flips_above_the_limit() {
             } else {
                 refusal(21, total as usize)
             };
-            assert_eq!(read_header(flown(limit), &air), heard);
-            assert_eq!(read_frame(flown(limit), &air, &[]), heard);
+            assert_eq!(read_header(flown(limit), None, &air), heard);
+            assert_eq!(read_frame(flown(limit), None, &air, &[]), heard);
         }
     }
 }
@@ -315,7 +319,7 @@ fn a_caller_that_names_no_limit_has_28() {
     let clean = written(&given(&mut rng), &[]);
     for total in 0..=42 {
         let air = with_flips(&mut rng, &clean, total);
-        let answer = read_frame(usual(Edition::Flown), &air, &[]).map(|heard| heard.flips());
+        let answer = read_frame(usual(Edition::Flown), None, &air, &[]).map(|heard| heard.flips());
         let expected = if total <= 28 {
             Ok(total)
         } else {
@@ -324,7 +328,7 @@ fn a_caller_that_names_no_limit_has_28() {
         assert_eq!(answer, expected);
         assert_eq!(
             answer,
-            read_frame(flown(28), &air, &[]).map(|heard| heard.flips())
+            read_frame(flown(28), None, &air, &[]).map(|heard| heard.flips())
         );
     }
 }
@@ -332,13 +336,13 @@ fn a_caller_that_names_no_limit_has_28() {
 #[test]
 fn a_burst_of_up_to_the_limit_is_undone_and_a_longer_one_is_not() {
     let clean = written(&given(&mut Rng::new(16)), &[]);
-    let header = read_header(WIDEST, &clean).unwrap().header;
+    let header = read_header(WIDEST, None, &clean).unwrap().header;
     for limit in [0, 1, 14, 28, 41, 42] {
         for length in 0..=42 {
             for start in 0..=AIR_BITS - length {
                 let mut air = clean;
                 burst(&mut air, start, length);
-                let answer = read_header(flown(limit), &air).map(|heard| heard.header);
+                let answer = read_header(flown(limit), None, &air).map(|heard| heard.header);
                 let undone = length <= limit as usize;
                 assert_eq!(
                     answer,
@@ -361,8 +365,11 @@ fn flips_in_parity_positions_count_against_the_limit() {
         flip_pattern(&mut air, 6, pattern);
         let ones = pattern.count_ones();
         let limit = ones - 1;
-        assert_eq!(read_header(flown(limit), &air), refusal(21, ones as usize));
-        assert!(read_header(flown(ones), &air).is_ok());
+        assert_eq!(
+            read_header(flown(limit), None, &air),
+            refusal(21, ones as usize)
+        );
+        assert!(read_header(flown(ones), None, &air).is_ok());
     }
 }
 
@@ -374,7 +381,7 @@ fn refusal_21_comes_after_3_and_before_4() {
     });
     flip_pattern(&mut air, 0, 0x0007);
     flip_pattern(&mut air, 13, 0x0001);
-    let limited = |limit: u32, air: &[u8]| read_frame(flown(limit), air, &[1]);
+    let limited = |limit: u32, air: &[u8]| read_frame(flown(limit), None, air, &[1]);
     // 5 under a right CRC5, 4 under a wrong one: 21 comes before both of them.
     assert_eq!(limited(4, &air), refusal(5, 100));
     assert_eq!(limited(3, &air), refusal(21, 4));
@@ -401,18 +408,18 @@ fn refusal_20_is_a_limit_above_42_and_comes_before_everything() {
     for limit in [43, 44, 84, 255, 256, 298, 65_535, 65_536 + 42, u32::MAX] {
         for slice in slices {
             assert_eq!(
-                read_header(flown(limit), slice),
+                read_header(flown(limit), None, slice),
                 refusal(20, limit as usize)
             );
             assert_eq!(
-                read_frame(flown(limit), slice, &[1]),
+                read_frame(flown(limit), None, slice, &[1]),
                 refusal(20, limit as usize)
             );
         }
     }
     for limit in 0..=42 {
-        assert!(read_frame(flown(limit), &good, &[]).is_ok());
-        assert_eq!(read_header(flown(limit), &short), refusal(1, 209));
+        assert!(read_frame(flown(limit), None, &good, &[]).is_ok());
+        assert_eq!(read_header(flown(limit), None, &short), refusal(1, 209));
     }
 }
 
@@ -422,7 +429,7 @@ fn crc5_is_judged_after_repair() {
     for word in 0..WORDS {
         flip_pattern(&mut air, word, 0x7000);
     }
-    assert_eq!(read_header(WIDEST, &air), refusal(4, 6));
+    assert_eq!(read_header(WIDEST, None, &air), refusal(4, 6));
 }
 
 #[test]
@@ -433,7 +440,7 @@ fn refusals_5_and_6_are_the_values_out_of_range() {
                 header[Field::SrcId] = src_id;
                 header[Field::AiTypeSrc] = ai_type_src;
             });
-            let number = match read_header(WIDEST, &air) {
+            let number = match read_header(WIDEST, None, &air) {
                 Ok(heard) => {
                     assert_eq!(heard.header[Field::SrcId], src_id);
                     0
@@ -469,7 +476,7 @@ fn other_fields_are_carried_without_limits() {
         header[Field::SrcId] = 7;
         header[Field::AiTypeSrc] = 3;
     });
-    let heard = read_header(WIDEST, &air).unwrap();
+    let heard = read_header(WIDEST, None, &air).unwrap();
     assert_eq!(heard.header[Field::AiTypeDst], 15);
     assert_eq!(heard.header[Field::DstId], 127);
 }
@@ -485,7 +492,7 @@ fn refusal_7_gives_pdu_length() {
         });
         for length in 0..2_100 {
             if length != usize::from(pdu_length) {
-                let answer = read_frame(WIDEST, &air, &payload[..length]);
+                let answer = read_frame(WIDEST, None, &air, &payload[..length]);
                 assert_eq!(answer, refusal(7, pdu_length.into()));
             }
         }
@@ -495,7 +502,7 @@ fn refusal_7_gives_pdu_length() {
 #[test]
 fn refusal_7_comes_after_6() {
     let air = sealed(&[], |header| header[Field::AiTypeSrc] = 4);
-    assert_eq!(read_frame(WIDEST, &air, &[1]), refusal(6, 4));
+    assert_eq!(read_frame(WIDEST, None, &air, &[1]), refusal(6, 4));
 }
 
 #[test]
@@ -506,7 +513,10 @@ fn refusal_8_gives_the_crc13_worked_out() {
         let right = crc13(&payload);
         for bit in 0..13 {
             let air = sealed(&payload, |header| header[Field::Crc13] ^= 1 << bit);
-            assert_eq!(read_frame(WIDEST, &air, &payload), refusal(8, right.into()));
+            assert_eq!(
+                read_frame(WIDEST, None, &air, &payload),
+                refusal(8, right.into())
+            );
         }
     }
 }
@@ -571,7 +581,7 @@ fn under_the_corrected_edition_all_128_sources_are_allowed() {
                 header[Field::AiTypeSrc] = ai_type_src;
                 header[Field::AiTypeDst] = src_id % 16;
             });
-            let answer = read_frame(CORRECTED, &air, &[]);
+            let answer = read_frame(CORRECTED, None, &air, &[]);
             if ai_type_src > 3 {
                 assert_eq!(answer, refusal(6, ai_type_src.into()));
             } else {
@@ -604,12 +614,12 @@ fn a_header_of_one_edition_reads_the_same_under_the_other_where_bits_32_to_35_ar
                 given[field as usize] = header[field];
             }
             let air = written_under(written, &given, &[]);
-            let own = read_header(usual(written), &air).unwrap();
+            let own = read_header(usual(written), None, &air).unwrap();
             if round % 16 == 0 {
-                assert_eq!(read_header(read, &air), Ok(own));
+                assert_eq!(read_header(read, None, &air), Ok(own));
             } else {
                 let worked_out = own.header.crc5(read.edition);
-                assert_eq!(read_header(read, &air), refusal(4, worked_out.into()));
+                assert_eq!(read_header(read, None, &air), refusal(4, worked_out.into()));
             }
         }
     }
@@ -625,7 +635,7 @@ fn the_order_of_refusals_is_the_same_under_the_corrected_edition_but_for_5() {
     });
     let read = |limit: u32, air: &[u8]| {
         let edition = Edition::Corrected;
-        read_frame(Rules { edition, limit }, air, &[])
+        read_frame(Rules { edition, limit }, None, air, &[])
     };
     assert_eq!(read(42, &air), refusal(6, 9));
     // word 13 as another valid word: CRC5 is another one
@@ -650,17 +660,186 @@ fn payload_and_damage_are_judged_alike_under_both_editions() {
             let (given, payload) = (given_under(edition, &mut rng), rng.bytes(20));
             let clean = written_under(edition, &given, &payload);
             let air = with_flips(&mut rng, &clean, 42);
-            let header = read_frame(rules, &clean, &payload).unwrap().header;
+            let header = read_frame(rules, None, &clean, &payload).unwrap().header;
             let patterns = flipped(&clean, &air);
             let heard = Heard { header, patterns };
-            assert_eq!(read_frame(rules, &air, &payload), Ok(heard));
-            assert_eq!(read_frame(usual(edition), &air, &payload), refusal(21, 42));
-            assert_eq!(read_frame(rules, &air, &payload[1..]), refusal(7, 20));
+            assert_eq!(read_frame(rules, None, &air, &payload), Ok(heard));
+            assert_eq!(
+                read_frame(usual(edition), None, &air, &payload),
+                refusal(21, 42)
+            );
+            assert_eq!(read_frame(rules, None, &air, &payload[1..]), refusal(7, 20));
             let mut other = payload.clone();
             other[3] ^= 4;
             let worked_out = crc13(&other);
-            let answer = read_frame(rules, &air, &other);
+            let answer = read_frame(rules, None, &air, &other);
             assert_eq!(answer, refusal(8, worked_out.into()));
         }
+    }
+}
+
+/// A flown frame of this source, without payload.
+fn of_source(src_id: u16) -> [u8; AIR_BITS] {
+    sealed(&[], |header| header[Field::SrcId] = src_id)
+}
+
+#[test]
+fn each_satellite_agrees_with_its_own_call_sign_alone() {
+    for src_id in 0..8 {
+        let air = of_source(src_id);
+        let without = read_frame(WIDEST, None, &air, &[]);
+        assert!(without.is_ok());
+        for satellite in 0..4 {
+            let call = call_sign_bits(satellite);
+            let answer = if satellite == usize::from(src_id / 2) {
+                without
+            } else {
+                refusal(24, src_id.into())
+            };
+            assert_eq!(read_frame(WIDEST, Some(&call), &air, &[]), answer);
+            assert_eq!(read_header(WIDEST, Some(&call), &air), answer);
+        }
+    }
+}
+
+#[test]
+fn no_bit_of_a_call_sign_is_forgiven() {
+    for src_id in 0..8 {
+        let air = of_source(src_id);
+        let right = call_sign_bits(usize::from(src_id / 2));
+        for at in 0..48 {
+            let mut call = right;
+            call[at] ^= 1;
+            let answer = read_header(WIDEST, Some(&call), &air);
+            assert_eq!(answer, refusal(24, src_id.into()));
+        }
+    }
+}
+
+#[test]
+fn a_call_sign_is_six_characters_in_reading_order_lowest_bit_first() {
+    let spelled = |text: &str, lowest_first: bool| -> Vec<u8> {
+        let bits = |c: u8| (0..8).map(move |i| c >> (if lowest_first { i } else { 7 - i }) & 1);
+        text.bytes().flat_map(bits).collect()
+    };
+    let answer = |call: Vec<u8>| read_header(WIDEST, Some(&call), &of_source(4)).is_ok();
+    assert!(answer(spelled("DP0TBD", true)));
+    // the letter O of Table 2; small letters; from the last character; highest bit first
+    for wrong in ["DPOTBD", "dp0tbd", "DBT0PD", "DP0TBB", "DP0TB D", ""] {
+        assert!(!answer(spelled(wrong, true)));
+    }
+    assert!(!answer(spelled("DP0TBD", false)));
+}
+
+#[test]
+fn refusal_23_is_another_length_and_then_the_lowest_element_above_1() {
+    let air = of_source(0);
+    for length in (0..48).chain(49..130) {
+        // even where an element is above 1, or all of them
+        for element in [0, 1, 2, 255] {
+            let call = vec![element; length];
+            assert_eq!(read_header(WIDEST, Some(&call), &air), refusal(23, length));
+        }
+    }
+    for index in 0..48 {
+        for value in [2, 3, 128, 255] {
+            let mut call = call_sign_bits(0);
+            call[47] = value;
+            call[index] = value;
+            assert_eq!(read_header(WIDEST, Some(&call), &air), refusal(23, index));
+        }
+    }
+}
+
+#[test]
+fn refusal_23_comes_after_2_and_before_3() {
+    let mut air = of_source(0);
+    flip_pattern(&mut air, 0, 0x000F);
+    let read = |limit: u32, air: &[u8]| read_frame(flown(limit), Some(&[1; 47]), air, &[1]);
+    assert_eq!(read(0, &air), refusal(23, 47));
+    air[100] = 2;
+    assert_eq!(read(0, &air), refusal(2, 100));
+    assert_eq!(read(0, &air[1..]), refusal(1, 209));
+    assert_eq!(read(43, &air[1..]), refusal(20, 43));
+}
+
+#[test]
+fn refusal_24_comes_after_5_and_before_6() {
+    let other = call_sign_bits(3);
+    let read = |air: &[u8]| read_frame(WIDEST, Some(&other), air, &[1]);
+    let wrong = |src_id: u16| {
+        sealed(&[], |header| {
+            header[Field::SrcId] = src_id;
+            header[Field::AiTypeSrc] = 9;
+        })
+    };
+    assert_eq!(read(&wrong(5)), refusal(24, 5));
+    assert_eq!(read(&wrong(6)), refusal(6, 9));
+    for src_id in 8..128 {
+        assert_eq!(read(&wrong(src_id)), refusal(5, src_id.into()));
+    }
+}
+
+#[test]
+fn the_repaired_headers_satellite_is_what_agrees() {
+    // SrcId 3 is received as 2, as 1 and as 7, and within repair.
+    for (word, pattern) in [(1, 0x2000), (1, 0x4000), (0, 0x0400)] {
+        let mut air = of_source(3);
+        flip_pattern(&mut air, word, pattern);
+        for satellite in 0..4 {
+            let call = call_sign_bits(satellite);
+            let answer = read_header(WIDEST, Some(&call), &air);
+            let src_id = answer.map(|heard| heard.header[Field::SrcId]);
+            assert_eq!(
+                src_id,
+                if satellite == 1 {
+                    Ok(3)
+                } else {
+                    refusal(24, 3)
+                }
+            );
+        }
+    }
+}
+
+#[test]
+fn under_the_corrected_edition_call_signs_are_not_looked_at() {
+    let calls: [&[u8]; 5] = [
+        &[],
+        &[9; 48],
+        &[0; 49],
+        &call_sign_bits(0),
+        &call_sign_bits(3),
+    ];
+    for src_id in [0, 1, 6, 7, 8, 97, 127] {
+        for ai_type_src in [0, 9] {
+            let air = sealed_under(Edition::Corrected, &[], |header| {
+                header[Field::SrcId] = src_id;
+                header[Field::AiTypeSrc] = ai_type_src;
+            });
+            for call in calls {
+                let without = read_frame(CORRECTED, None, &air, &[]);
+                assert_eq!(read_frame(CORRECTED, Some(call), &air, &[]), without);
+                assert_eq!(read_header(CORRECTED, Some(call), &air), without);
+            }
+        }
+    }
+}
+
+#[test]
+fn a_call_sign_that_agrees_changes_no_answer() {
+    let mut rng = Rng::new(24);
+    for _ in 0..500 {
+        let (given, payload) = (given(&mut rng), rng.bytes(9));
+        let clean = written(&given, &payload);
+        let flips = rng.below(43);
+        let mut air = with_flips(&mut rng, &clean, flips);
+        if rng.one_in(4) {
+            flip_pattern(&mut air, 12, 0x000F);
+        }
+        let call = call_sign_bits(usize::from(given[0] / 2));
+        let rules = flown(rng.below(50));
+        let without = read_frame(rules, None, &air, &payload);
+        assert_eq!(read_frame(rules, Some(&call), &air, &payload), without);
     }
 }

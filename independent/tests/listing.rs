@@ -214,7 +214,7 @@ heard 16 accepted 9 refused 7
     assert_eq!(listed(&bytes), expected);
     let mut sheet = Sheet::new(Edition::Flown);
     for record in example() {
-        let _ = sheet.offer(LISTED, &record.header, &record.payload);
+        let _ = sheet.offer(LISTED, None, &record.header, &record.payload);
     }
     let (first, fifth) = (sheet.source(0), sheet.source(4));
     assert_eq!((first.caller.missed, fifth.caller.repeats), (2, 1));
@@ -261,16 +261,16 @@ fn a_season_has_everything() {
     let (mut flips, mut lengths) = (BTreeSet::new(), BTreeSet::new());
     let mut patterns = Vec::new();
     for record in &records {
-        if let Ok(heard) = sheet.offer(LISTED, &record.header, &record.payload) {
+        if let Ok(heard) = sheet.offer(LISTED, None, &record.header, &record.payload) {
             flips.insert(heard.flips());
             patterns.push(heard.patterns);
             lengths.insert(record.payload.len());
         }
     }
-    // 1 to 8; 20 and 21 are not given under the largest limit
+    // 1 to 8; 20 and 21 are not given under the largest limit, 23 and 24 not without a call sign
     assert_eq!(sheet.refused[0], 0);
     assert!(sheet.refused[1..8].iter().all(|&count| count > 20));
-    assert_eq!(sheet.refused[8..], [0, 0]);
+    assert_eq!(sheet.refused[8..], [0; 4]);
     for source in sheet.sources {
         for lane in [source.caller, source.responder] {
             assert!(lane.accepted > 50 && lane.missed > 0 && lane.repeats > 0);
@@ -295,6 +295,7 @@ fn a_corrected_season_has_everything() {
     for record in &records {
         let answer = sheet.offer(
             listed_as(Edition::Corrected),
+            None,
             &record.header,
             &record.payload,
         );
@@ -302,11 +303,11 @@ fn a_corrected_season_has_everything() {
             patterns.push(heard.patterns);
         } else {
             // a frame of the flown edition
-            flown += u32::from(read_frame(LISTED, &record.header, &record.payload).is_ok());
+            flown += u32::from(read_frame(LISTED, None, &record.header, &record.payload).is_ok());
         }
     }
-    // 2, 3, 4, 6, 7, 8; 5 is not made, and 1, 20 and 21 are not given
-    let numbers: Vec<usize> = (0..10).filter(|&k| sheet.refused[k] > 20).collect();
+    // 2, 3, 4, 6, 7, 8; 5 is not made, and the others are not given
+    let numbers: Vec<usize> = (0..12).filter(|&k| sheet.refused[k] > 20).collect();
     assert_eq!(numbers, [1, 2, 3, 5, 6, 7]);
     assert_eq!(sheet.refused.iter().filter(|&&count| count > 0).count(), 6);
     assert!(flown > 0);
@@ -321,7 +322,7 @@ fn heard_of(options: &Options) -> Vec<Heard> {
     let records = records_of(&season(options));
     let heard = records
         .iter()
-        .map(|r| read_frame(LISTED, &r.header, &r.payload));
+        .map(|r| read_frame(LISTED, None, &r.header, &r.payload));
     heard.filter_map(Result::ok).collect()
 }
 
@@ -352,7 +353,7 @@ fn a_clean_season_is_accepted() {
     let mut flips = 0;
     for record in &records {
         assert_eq!(record.payload.len(), 62);
-        flips += read_frame(LISTED, &record.header, &record.payload)
+        flips += read_frame(LISTED, None, &record.header, &record.payload)
             .unwrap()
             .flips();
     }
@@ -370,7 +371,7 @@ fn a_season_of_one_payload_length_is_refused_in_every_way_too() {
         let mut sheet = Sheet::new(Edition::Flown);
         for record in records_of(&season(&fixed)) {
             assert_eq!(record.payload.len(), length);
-            let _ = sheet.offer(LISTED, &record.header, &record.payload);
+            let _ = sheet.offer(LISTED, None, &record.header, &record.payload);
         }
         assert!(sheet.refused[1..8].iter().all(|&count| count > 5));
     }

@@ -1,6 +1,7 @@
 //! The pass sheet over whole histories.
 
 use independent::air::AIR_BITS;
+use independent::call_sign::call_sign_bits;
 use independent::header::{Field, Header};
 use independent::refusal::Refusal;
 use independent::rng::Rng;
@@ -29,7 +30,7 @@ fn accepted_frames_touch_their_lane_alone() {
     for (src_id, fr_cnt_tx) in [(0, 14), (5, 3), (0, 1), (5, 3), (0, 1), (5, 2)] {
         let mut air = frame(src_id, fr_cnt_tx);
         flip_pattern(&mut air, 2, 0x4001);
-        let heard = sheet.offer(usual(Edition::Flown), &air, &[]).unwrap();
+        let heard = sheet.offer(usual(Edition::Flown), None, &air, &[]).unwrap();
         let patterns = [0, 0, 0x4001, 0, 0, 0, 0, 0, 0, 0, 0, 0, 0, 0];
         assert_eq!(heard.patterns, patterns);
         assert_eq!((heard.flips(), heard.worst()), (2, 2));
@@ -57,7 +58,7 @@ fn accepted_frames_touch_their_lane_alone() {
 fn refused_frames_touch_no_source() {
     let mut sheet = Sheet::new(Edition::Flown);
     sheet
-        .offer(usual(Edition::Flown), &frame(1, 4), &[])
+        .offer(usual(Edition::Flown), None, &frame(1, 4), &[])
         .unwrap();
     let source = sheet.sources[1];
 
@@ -86,19 +87,19 @@ fn refused_frames_touch_no_source() {
     for (i, (air, payload)) in offers.into_iter().enumerate() {
         let before = sheet.refused;
         let refusal = sheet
-            .offer(usual(Edition::Flown), air, payload)
+            .offer(usual(Edition::Flown), None, air, payload)
             .unwrap_err();
         assert_eq!(usize::from(refusal.number), i + 1);
         let mut after = before;
         after[i] += 1;
         assert_eq!(sheet.refused, after);
     }
-    assert_eq!(sheet.refused, [1, 1, 1, 1, 1, 1, 1, 1, 0, 0]);
+    assert_eq!(sheet.refused, [1, 1, 1, 1, 1, 1, 1, 1, 0, 0, 0, 0]);
     assert_eq!(sheet.sources[1], source);
     assert_eq!(sheet.offered(), 9);
     // Counter 9 was only ever refused: from 4 to 5 nothing is missed.
     sheet
-        .offer(usual(Edition::Flown), &frame(1, 5), &[])
+        .offer(usual(Edition::Flown), None, &frame(1, 5), &[])
         .unwrap();
     assert_eq!(sheet.sources[1].responder.missed, 0);
 }
@@ -118,22 +119,22 @@ fn limits_are_counted_and_are_in_the_total() {
         limit,
     };
     assert_eq!(
-        sheet.offer(limit(43), &[], &[]),
+        sheet.offer(limit(43), None, &[], &[]),
         Err(Refusal::new(20, 43usize))
     );
     assert_eq!(
-        sheet.offer(usual(Edition::Flown), &faded(3, 1), &[]),
+        sheet.offer(usual(Edition::Flown), None, &faded(3, 1), &[]),
         Err(Refusal::new(21, 29usize))
     );
     assert_eq!(
-        sheet.offer(limit(28), &faded(3, 1), &[]),
+        sheet.offer(limit(28), None, &faded(3, 1), &[]),
         Err(Refusal::new(21, 29usize))
     );
-    assert_eq!(sheet.refused, [0, 0, 0, 0, 0, 0, 0, 0, 1, 2]);
+    assert_eq!(sheet.refused, [0, 0, 0, 0, 0, 0, 0, 0, 1, 2, 0, 0]);
     assert_eq!((sheet.offered(), sheet.refused_total()), (3, 3));
     assert_eq!(sheet.sources, Sheet::new(Edition::Flown).sources);
     // The limit is the offer's, not the sheet's.
-    let heard = sheet.offer(limit(29), &faded(3, 1), &[]).unwrap();
+    let heard = sheet.offer(limit(29), None, &faded(3, 1), &[]).unwrap();
     assert_eq!((heard.flips(), sheet.source(3).repaired()), (29, 29));
     assert_eq!((sheet.offered(), sheet.accepted_total()), (4, 1));
 }
@@ -149,13 +150,16 @@ fn refusal_20_comes_after_17_and_fills_a_sheet_as_others_do() {
         };
         let number = if offer == 0 { 21 } else { 20 };
         assert_eq!(
-            sheet.offer(rules, &faded(0, 0), &[]).unwrap_err().number,
+            sheet
+                .offer(rules, None, &faded(0, 0), &[])
+                .unwrap_err()
+                .number,
             number
         );
         assert_eq!(sheet.refused[place], FULL as u32);
         let full = sheet.clone();
         for limit in [0, 28, 43, u32::MAX] {
-            let answer = sheet.offer(Rules { limit, ..rules }, &faded(0, 0), &[]);
+            let answer = sheet.offer(Rules { limit, ..rules }, None, &faded(0, 0), &[]);
             assert_eq!(answer, Err(Refusal::new(17, FULL)));
         }
         assert_eq!(sheet, full);
@@ -168,9 +172,9 @@ fn a_sheet_is_full_after_65535_offers() {
     let (good, bad) = (frame(6, 0), [2; AIR_BITS]);
     for offer in 0..FULL {
         let answer = if offer % 1_000 == 0 {
-            sheet.offer(usual(Edition::Flown), &good, &[]).err()
+            sheet.offer(usual(Edition::Flown), None, &good, &[]).err()
         } else {
-            sheet.offer(usual(Edition::Flown), &bad, &[]).err()
+            sheet.offer(usual(Edition::Flown), None, &bad, &[]).err()
         };
         assert_ne!(answer.map(|refusal| refusal.number), Some(17));
     }
@@ -181,7 +185,7 @@ fn a_sheet_is_full_after_65535_offers() {
     );
     for air in [&good[..], &bad[..], &[]] {
         assert_eq!(
-            sheet.offer(usual(Edition::Flown), air, &[]),
+            sheet.offer(usual(Edition::Flown), None, air, &[]),
             Err(Refusal::new(17, 65_535usize))
         );
     }
@@ -196,7 +200,7 @@ fn accepted_and_refused_are_the_history() {
     for _ in 0..500 {
         let mut air = frame(rng.below(8) as u16, rng.below(16) as u16);
         flip_pattern(&mut air, 4, rng.below(0x8000) as u16);
-        match sheet.offer(usual(Edition::Flown), &air, &[]) {
+        match sheet.offer(usual(Edition::Flown), None, &air, &[]) {
             Ok(_) => accepted += 1,
             Err(_) => refused += 1,
         }
@@ -218,9 +222,9 @@ fn made_up_counts_stay_at_the_largest() {
     };
     let mut air = frame(2, 8);
     flip_pattern(&mut air, 0, 1);
-    sheet.offer(usual(Edition::Flown), &air, &[]).unwrap();
+    sheet.offer(usual(Edition::Flown), None, &air, &[]).unwrap();
     sheet
-        .offer(usual(Edition::Flown), &frame(2, 12), &[])
+        .offer(usual(Edition::Flown), None, &frame(2, 12), &[])
         .unwrap();
     let expected = Lane {
         accepted: 65_535,
@@ -232,7 +236,7 @@ fn made_up_counts_stay_at_the_largest() {
     assert_eq!(sheet.sources[2].responder, expected);
     assert_eq!(sheet.sources[2].caller, Lane::default());
     assert_eq!(
-        sheet.offer(usual(Edition::Flown), &air, &[]),
+        sheet.offer(usual(Edition::Flown), None, &air, &[]),
         Err(Refusal::new(17, FULL))
     );
 }
@@ -245,6 +249,7 @@ fn the_caller_bit_names_the_lane() {
             sheet
                 .offer(
                     usual(Edition::Flown),
+                    None,
                     &frame_of(src_id, caller, fr_cnt_tx),
                     &[],
                 )
@@ -278,7 +283,7 @@ fn a_radio_keeps_one_frame_counter_as_caller_and_another_as_responder() {
     for (caller, fr_cnt_tx) in [(1, 3), (0, 4), (1, 4), (0, 4), (1, 6), (0, 5)] {
         let mut air = frame_of(2, caller, fr_cnt_tx);
         burst(&mut air, 0, 1 + usize::from(caller));
-        sheet.offer(usual(Edition::Flown), &air, &[]).unwrap();
+        sheet.offer(usual(Edition::Flown), None, &air, &[]).unwrap();
     }
     let source = Source {
         caller: Lane {
@@ -323,7 +328,7 @@ fn a_lanes_numbers_depend_on_that_lanes_accepted_frames_only() {
     let mut whole = Sheet::new(Edition::Flown);
     let mut accepted = Vec::new();
     for (lane, air) in &history {
-        if whole.offer(usual(Edition::Flown), air, &[]).is_ok() {
+        if whole.offer(usual(Edition::Flown), None, air, &[]).is_ok() {
             accepted.push((*lane, air));
         }
     }
@@ -332,7 +337,9 @@ fn a_lanes_numbers_depend_on_that_lanes_accepted_frames_only() {
             let mut alone = Sheet::new(Edition::Flown);
             for (lane, air) in &accepted {
                 if *lane == (src_id, caller) {
-                    alone.offer(usual(Edition::Flown), &air[..], &[]).unwrap();
+                    alone
+                        .offer(usual(Edition::Flown), None, &air[..], &[])
+                        .unwrap();
                 }
             }
             let of = |sheet: &Sheet| {
@@ -357,9 +364,9 @@ fn frames_of_both_lanes_fill_a_sheet() {
             sheet.sources[5].caller.accepted = of_caller;
             sheet.sources[5].responder.accepted = of_responder;
             let air = frame_of(5, caller, 0);
-            assert!(sheet.offer(usual(Edition::Flown), &air, &[]).is_ok());
+            assert!(sheet.offer(usual(Edition::Flown), None, &air, &[]).is_ok());
             let full = sheet.clone();
-            let answer = sheet.offer(usual(Edition::Flown), &air, &[]);
+            let answer = sheet.offer(usual(Edition::Flown), None, &air, &[]);
             assert_eq!(answer, Err(Refusal::new(17, FULL)));
             assert_eq!(sheet, full);
             assert_eq!(sheet.source(5).accepted(), 65_535);
@@ -385,7 +392,7 @@ fn a_corrected_sheet_has_a_record_for_each_of_128_sources() {
     for src_id in 0..128 {
         for fr_cnt_tx in [3, 3, 6] {
             sheet
-                .offer(rules, &corrected(src_id, fr_cnt_tx), &[])
+                .offer(rules, None, &corrected(src_id, fr_cnt_tx), &[])
                 .unwrap();
         }
     }
@@ -430,7 +437,7 @@ fn refusal_22_is_a_frame_of_the_other_edition_and_changes_nothing() {
                     edition: edition.other(),
                     limit,
                 };
-                let answer = sheet.offer(rules, slice, &[]);
+                let answer = sheet.offer(rules, None, slice, &[]);
                 assert_eq!(answer, Err(Refusal::new(22, 0usize)));
                 assert_eq!(sheet, before);
                 assert_eq!(sheet.offered(), 5);
@@ -445,11 +452,23 @@ fn refusal_22_comes_after_17() {
         let mut sheet = Sheet::new(edition);
         sheet.refused[0] = FULL as u32 - 1;
         let (own, other) = (usual(edition), usual(edition.other()));
-        assert_eq!(sheet.offer(other, &[], &[]), Err(Refusal::new(22, 0usize)));
+        assert_eq!(
+            sheet.offer(other, None, &[], &[]),
+            Err(Refusal::new(22, 0usize))
+        );
         // It was not offered: there is room for one more.
-        assert_eq!(sheet.offer(own, &[], &[]), Err(Refusal::new(1, 0usize)));
-        assert_eq!(sheet.offer(other, &[], &[]), Err(Refusal::new(17, FULL)));
-        assert_eq!(sheet.offer(own, &[], &[]), Err(Refusal::new(17, FULL)));
+        assert_eq!(
+            sheet.offer(own, None, &[], &[]),
+            Err(Refusal::new(1, 0usize))
+        );
+        assert_eq!(
+            sheet.offer(other, None, &[], &[]),
+            Err(Refusal::new(17, FULL))
+        );
+        assert_eq!(
+            sheet.offer(own, None, &[], &[]),
+            Err(Refusal::new(17, FULL))
+        );
     }
 }
 
@@ -475,8 +494,117 @@ fn a_corrected_sheet_counts_refusals_as_a_flown_one_does() {
         (rules, &faded, &[]),
     ];
     for (rules, air, payload) in offers {
-        assert!(sheet.offer(rules, air, payload).is_err());
+        assert!(sheet.offer(rules, None, air, payload).is_err());
     }
-    assert_eq!(sheet.refused, [1, 1, 1, 1, 0, 0, 1, 0, 1, 1]);
+    assert_eq!(sheet.refused, [1, 1, 1, 1, 0, 0, 1, 0, 1, 1, 0, 0]);
     assert_eq!(sheet.sources, Sheet::new(Edition::Corrected).sources);
+}
+
+#[test]
+fn call_signs_are_counted_and_are_in_the_total() {
+    let rules = usual(Edition::Flown);
+    let mut sheet = Sheet::new(Edition::Flown);
+    let air = frame(2, 5);
+    let (right, other) = (call_sign_bits(1), call_sign_bits(0));
+    let mut above = right;
+    above[47] = 2;
+    for (call, answer) in [
+        (&right[1..], Refusal::new(23, 47usize)),
+        (&above, Refusal::new(23, 47usize)),
+        (&other, Refusal::new(24, 2usize)),
+        (&[], Refusal::new(23, 0usize)),
+    ] {
+        assert_eq!(sheet.offer(rules, Some(call), &air, &[]), Err(answer));
+    }
+    assert_eq!(sheet.refused, [0, 0, 0, 0, 0, 0, 0, 0, 0, 0, 3, 1]);
+    assert_eq!((sheet.offered(), sheet.refused_total()), (4, 4));
+    assert_eq!(sheet.sources, Sheet::new(Edition::Flown).sources);
+    sheet.offer(rules, Some(&right), &air, &[]).unwrap();
+    assert_eq!((sheet.offered(), sheet.accepted_total()), (5, 1));
+    // 17 comes first
+    sheet.refused[11] = FULL as u32 - 4;
+    for call in [None, Some(&right[..]), Some(&other), Some(&[])] {
+        assert_eq!(
+            sheet.offer(rules, call, &air, &[]),
+            Err(Refusal::new(17, FULL))
+        );
+    }
+}
+
+#[test]
+fn a_corrected_sheet_does_not_look_at_call_signs() {
+    let rules = usual(Edition::Corrected);
+    for call in [&[][..], &[7; 48], &call_sign_bits(0)] {
+        let mut with = Sheet::new(Edition::Corrected);
+        let mut without = with.clone();
+        for src_id in [0, 2, 97] {
+            let air = corrected(src_id, 9);
+            let heard = without.offer(rules, None, &air, &[]);
+            assert_eq!(with.offer(rules, Some(call), &air, &[]), heard);
+            assert!(heard.is_ok());
+        }
+        assert_eq!(with, without);
+        // not even where it belongs to the other edition
+        let flown = usual(Edition::Flown);
+        let answer = with.offer(flown, Some(call), &frame(0, 0), &[]);
+        assert_eq!(answer, Err(Refusal::new(22, 0usize)));
+    }
+}
+
+/// The order of all checks.
+const ORDER: [u8; 14] = [17, 22, 20, 1, 2, 23, 3, 21, 4, 5, 24, 6, 7, 8];
+
+/// What is answered to an offer that has a reason for each of these refusals.
+fn answer_to(wrong: &[u8]) -> Option<u8> {
+    let has = |number: u8| wrong.contains(&number);
+    let mut header = Header::default();
+    // satellite B, or no satellite of S-NET
+    header[Field::SrcId] = if has(5) { 100 } else { 2 };
+    header[Field::AiTypeSrc] = if has(6) { 9 } else { 1 };
+    seal(Edition::Flown, &mut header, &[]);
+    header[Field::Crc13] ^= u16::from(has(8));
+    header[Field::Crc5] = header.crc5(Edition::Flown) ^ u16::from(has(4));
+    let mut air = header.to_air();
+    if has(21) {
+        burst(&mut air, 98, 28);
+        flip_pattern(&mut air, 5, 1);
+    }
+    if has(3) {
+        flip_pattern(&mut air, 2, 0x000F);
+    }
+    if has(2) {
+        air[150] = 2;
+    }
+    let air = if has(1) { &air[1..] } else { &air[..] };
+    let mut call = call_sign_bits(if has(24) { 3 } else { 1 }).to_vec();
+    if has(23) {
+        call.pop();
+    }
+    let mut sheet = Sheet::new(Edition::Flown);
+    sheet.refused[0] = if has(17) { FULL as u32 } else { 0 };
+    let rules = Rules {
+        edition: if has(22) {
+            Edition::Corrected
+        } else {
+            Edition::Flown
+        },
+        limit: if has(20) { 43 } else { 28 },
+    };
+    let payload: &[u8] = if has(7) { &[1] } else { &[] };
+    let answer = sheet.offer(rules, Some(&call), air, payload);
+    answer.err().map(|refusal| refusal.number)
+}
+
+#[test]
+fn of_several_refusals_the_first_in_the_order_of_checks_is_given() {
+    assert_eq!(answer_to(&[]), None);
+    for first in 0..ORDER.len() {
+        // alone, and with everything that comes after it, and with each one thing of that
+        assert_eq!(answer_to(&[ORDER[first]]), Some(ORDER[first]));
+        assert_eq!(answer_to(&ORDER[first..]), Some(ORDER[first]));
+        for &later in &ORDER[first + 1..] {
+            let both = [later, ORDER[first]];
+            assert_eq!(answer_to(&both), Some(ORDER[first]), "{both:?}");
+        }
+    }
 }

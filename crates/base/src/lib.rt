@@ -52,6 +52,12 @@ pub const FLIPS_ABOVE_LIMIT: u8 = 21;
 // "a frame offered to a sheet of the other edition"
 pub const OTHER_EDITION: u8 = 22;
 
+// "not 48 elements or one above 1", of a call sign
+pub const NO_CALL_SIGN: u8 = 23;
+
+// "disagreement" of the call sign with the satellite
+pub const OTHER_CALL_SIGN: u8 = 24;
+
 // Power page: "payload under 8 bytes"
 pub const NO_PAGE_HEADER: u8 = 9;
 

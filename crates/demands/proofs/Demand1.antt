@@ -34,15 +34,15 @@ use Rattle.sheet.proofs.Offering.{answers-frame, full-refuses, other-refuses, o
 use Rattle.sheet.proofs.Refusals.{offered-exactly, refused-keeps}
 use Rattle.air.specs.Air.{wordCount}
 
--- 20, 1 to 3, 21, 4 to 6
+-- 20, 1, 2, 23, 3, 21, 4, 5, 24, 6
 pub header-refused-exactly : (s : Signal) (why : Refusal) → Exactly (readHeaderOf s) (Refused why) (signalChecks s)
 header-refused-exactly = read-exactly
 
--- 20, 1 to 3, 21, 4 to 8
+-- the same, and 7, 8
 pub frame-refused-exactly : (f : Frame) (why : Refusal) → Exactly (frameOf f) (Refused why) (frameChecks f)
 frame-refused-exactly = refused-exactly
 
--- 17, 22, and then the same, on a sheet of either edition
+-- 17, 22, and then the same, on a sheet of either edition: the numbers of `wholeOrder`, one by one (`offer-numbered`)
 pub offer-refused-exactly : (own : Edition) (sheet : Sheet) (f : Frame) (why : Refusal) → Exactly (offerOf own sheet f .read .answer) (Refused why) (offerChecks own sheet f)
 offer-refused-exactly = offered-exactly
 

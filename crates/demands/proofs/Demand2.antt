@@ -6,16 +6,18 @@ use mathlib.Core.Path.{_≡_, sym, _∙_}
 use mathlib.Core.List.{List}
 use Prim.Native.Nat.{ℕ, _≤_}
 use lib.ListN.{take, replicate}
+use Rattle.sign.specs.Calls.{Call, Agrees}
 use Rattle.header.specs.declared.Header.{Header}
 use Rattle.header.specs.declared.Rules.{Rules}
 use Rattle.header.specs.declared.Fields.{Fields}
 use Rattle.header.specs.declared.Answer.the-variants.{Accepted}
 use Rattle.base.specs.declared.Written.the-variants.{Done}
+use Rattle.header.specs.Fields.{satelliteOf}
 use Rattle.header.specs.Writing.{headerFor, HeaderWritten}
 use Rattle.header.proofs.WrittenAir.{Sent, sent}
 use Rattle.air.specs.Air.{wordCount, airBits}
 use Rattle.air.specs.Flips.{mostFlips}
-use Rattle.frame.specs.Frames.{Frame, frame, frameRead}
+use Rattle.frame.specs.Frames.{Frame, frameWith, frameRead}
 use Rattle.frame.specs.Accepting.{Accepts}
 use Rattle.frame.proofs.Rules.{reader-then-rules, rules-then-reader, one-header}
 use Rattle.frame.proofs.Writing as writing
@@ -30,16 +32,18 @@ accepted-exactly f h flips patterns = (reader-then-rules f h flips patterns, rul
 pub accepted-with-one : (f : Frame) (h g : Header) (k m : ℕ) (p q : List ℕ) → Accepts f h k p → Accepts f g m q → (h ≡ g) × (k ≡ m) × (p ≡ q)
 accepted-with-one = one-header
 
--- the writer was handed an edition, some fields, a payload and an output, and wrote; the reader is handed rules of the same edition
-module _ (rules : Rules) (f : Fields) (payload before after : List ℕ) (written : HeaderWritten (rules .edition) f payload before Done after) where
+-- the writer was handed an edition, some fields, a payload and an output, and wrote; the reader is handed rules of the same edition, and
+-- perhaps a call sign
+module _ (rules : Rules) (f : Fields) (payload before after : List ℕ) (written : HeaderWritten (rules .edition) f payload before Done after) (call : Call) where
   so : Sent (rules .edition) f payload after
   so = sent (rules .edition) f payload before after written
 
   -- "the bits those rules fix": under any limit of at most 42, the rules accept what stands in the output with the fields, PduLength and the
-  -- checksums, and no flips
-  pub written-accepted : rules .limit ≤ mostFlips → Accepts (frame rules (take airBits after) payload) (headerFor (rules .edition) f payload) 0 (replicate wordCount 0)
-  written-accepted = rw (so .air) (writing.written-accepted rules f payload (so .writable))
+  -- checksums, and no flips; "where they are looked at", the call sign bits are those of the satellite
+  pub written-accepted : rules .limit ≤ mostFlips → Agrees call (satelliteOf (f .«src_id»))
+      → Accepts (frameWith rules call (take airBits after) payload) (headerFor (rules .edition) f payload) 0 (replicate wordCount 0)
+  written-accepted = rw (so .air) (writing.written-accepted rules f payload call (so .writable))
 
   -- "and no others": whatever the rules accept so, under any limit, are these bits
-  pub written-only : (air : List ℕ) → Accepts (frame rules air payload) (headerFor (rules .edition) f payload) 0 (replicate wordCount 0) → air ≡ take airBits after
-  written-only air accepts = writing.only-written rules f payload air accepts ∙ sym (so .air)
+  pub written-only : (air : List ℕ) → Accepts (frameWith rules call air payload) (headerFor (rules .edition) f payload) 0 (replicate wordCount 0) → air ≡ take airBits after
+  written-only air accepts = writing.only-written rules f payload call air accepts ∙ sym (so .air)

@@ -1,7 +1,8 @@
 -- DEMAND 3. "The repair table of 1,024 rows equals trying all 32 valid words on each of the 32,768 words. So a written header with at most
 -- three flips in each word, or a burst of up to 42 neighbouring bits, reads back as that very header with the exact number of flips."
 -- "Demand 3 now returns the exact pattern of every word." "Demands 2 and 3 then also need a limit of at most 42 and the total of flips to be
--- at most the limit."
+-- at most the limit." "Where they are looked at, demands 2 and 3 then also need" the call sign bits "to be 48 elements, each 0 or 1, that spell the call
+-- sign of the repaired header's satellite."
 -- Assumes nothing.
 use mathlib.Core.Path.{_≡_}
 use mathlib.Core.Bool.{cond}
@@ -21,16 +22,18 @@ use Rattle.word.proofs.Answer.{table-answers}
 use Rattle.air.specs.Air.{wordCount, airBits}
 use Rattle.air.specs.WordRepairs.{flipTotal}
 use Rattle.air.specs.Flips.{mostFlips, differsAt, flipsBetween, flipsInWord, flipPatterns, Burst}
+use Rattle.sign.specs.Calls.{Call, Agrees}
 use Rattle.header.specs.declared.Fields.{Fields}
 use Rattle.header.specs.declared.Rules.{Rules}
 use Rattle.header.specs.Rules.{usualRules}
 use Rattle.listing.specs.Listing.{listedRules}
 use Rattle.header.specs.declared.Answer.the-variants.{Accepted, Refused}
 use Rattle.base.specs.declared.Written.the-variants.{Done}
+use Rattle.header.specs.Fields.{satelliteOf}
 use Rattle.header.specs.Writing.{headerFor, HeaderWritten}
 use Rattle.header.proofs.WrittenAir.{Sent, sent}
 use Rattle.air.proofs.Flipped.{flipPatterns-bit, flipPatterns-total}
-use Rattle.frame.specs.Frames.{frame, frameOf, frameRead}
+use Rattle.frame.specs.Frames.{frame, frameWith, frameOf, frameRead}
 use Rattle.frame.proofs.Damage.{restored-frame, restored-burst}
 use Rattle.demands.specs.Zeros.{sentZeros, burstZeros}
 use Rattle.demands.proofs.LongBurst.{burst-of-43}
@@ -44,34 +47,34 @@ pub table-rows : (howMany tableRows (λ r. leb (onesIn positions (rowOf r)) radi
 table-rows = (rows-with-pattern, rows-marked)
 
 -- the writer was handed an edition, some fields, a payload and an output, and wrote; on the way some of the 210 bits were flipped; and the
--- reader was handed rules of the same edition with "a limit of at most 42"
+-- reader was handed rules of the same edition with "a limit of at most 42", and no call sign or that of the satellite
 module _ (rules : Rules) (allowed : rules .limit ≤ mostFlips) (f : Fields) (payload before after : List ℕ) (written : HeaderWritten (rules .edition) f payload before Done after)
-    (air : List ℕ) (long : length air ≡ airBits) (bits : AreBits air) where
+    (call : Call) (agrees : Agrees call (satelliteOf (f .«src_id»))) (air : List ℕ) (long : length air ≡ airBits) (bits : AreBits air) where
   so : Sent (rules .edition) f payload after
   so = sent (rules .edition) f payload before after written
 
   -- "reads back as that very header with the exact number of flips", and the exact pattern of every word
   abbrev pub ReadBack : Type 0
   ReadBack =
-      frameRead (frame rules air payload)
+      frameRead (frameWith rules call air payload)
       ≡ record { answer = Accepted (headerFor (rules .edition) f payload) (flipsBetween air (take airBits after)); patterns = flipPatterns air (take airBits after) }
 
   -- "a written header with at most three flips in each word", and "the total of flips to be at most the limit"
   pub three-in-each-word : ((j : ℕ) → j < wordCount → flipsInWord air (take airBits after) j ≤ radius) → flipsBetween air (take airBits after) ≤ rules .limit → ReadBack
-  three-in-each-word = rw (so .air) (restored-frame rules f payload air bits (so .writable) long allowed)
+  three-in-each-word = rw (so .air) (restored-frame rules f payload air bits (so .writable) long allowed call agrees)
 
   -- "or a burst": under a limit l a burst of up to l neighbouring bits is always undone. Its flips then keep within the limit.
   pub burst-undone : (start : ℕ) → Burst (rules .limit) start air (take airBits after) → ReadBack
-  burst-undone = rw (so .air) (restored-burst rules f payload air bits (so .writable) long allowed)
+  burst-undone = rw (so .air) (restored-burst rules f payload air bits (so .writable) long allowed call agrees)
 
 -- "a burst of up to 42 neighbouring bits" needs the limit 42, which the listing names; where no limit is named, 28 are undone
 module _ (edition : Edition) (f : Fields) (payload before after : List ℕ) (written : HeaderWritten edition f payload before Done after)
-    (air : List ℕ) (long : length air ≡ airBits) (bits : AreBits air) where
-  pub burst-of-42 : (start : ℕ) → Burst 42 start air (take airBits after) → ReadBack (listedRules edition) (lit≤ tt) f payload before after written air long bits
-  burst-of-42 = burst-undone (listedRules edition) (lit≤ tt) f payload before after written air long bits
+    (call : Call) (agrees : Agrees call (satelliteOf (f .«src_id»))) (air : List ℕ) (long : length air ≡ airBits) (bits : AreBits air) where
+  pub burst-of-42 : (start : ℕ) → Burst 42 start air (take airBits after) → ReadBack (listedRules edition) (lit≤ tt) f payload before after written call agrees air long bits
+  burst-of-42 = burst-undone (listedRules edition) (lit≤ tt) f payload before after written call agrees air long bits
 
-  pub burst-of-28 : (start : ℕ) → Burst 28 start air (take airBits after) → ReadBack (usualRules edition) (lit≤ tt) f payload before after written air long bits
-  burst-of-28 = burst-undone (usualRules edition) (lit≤ tt) f payload before after written air long bits
+  pub burst-of-28 : (start : ℕ) → Burst 28 start air (take airBits after) → ReadBack (usualRules edition) (lit≤ tt) f payload before after written call agrees air long bits
+  burst-of-28 = burst-undone (usualRules edition) (lit≤ tt) f payload before after written call agrees air long bits
 
 -- "the exact pattern of every word": bit i of pattern j says whether air bit 14 i + j was flipped, and the ones are all flips
 pub pattern-bits : (x y : List ℕ) (i j : ℕ) → i < positions → j < wordCount → getD (flipPatterns x y) j 0 / 2 ^ i % 2 ≡ cond (differsAt x y (wordCount * i + j)) 1 0

@@ -11,6 +11,8 @@ use Rattle.word.specs.declared.Repaired.{Repaired}
 use Rattle.word.specs.Repairs.{repairOf, syndromes}
 use Rattle.crc.specs.Crc.{crc13Of}
 use Rattle.air.specs.Air.{firstNoBit}
+use Rattle.sign.specs.CallSigns.{signOf}
+use Rattle.sign.specs.Calls.{callOf, looksAt, faultAt, otherAt}
 use Rattle.header.specs.declared.Fields.{Fields}
 use Rattle.header.specs.declared.Read.{Read}
 use Rattle.header.specs.declared.Rules.{Rules}
@@ -21,10 +23,10 @@ use Rattle.base.specs.declared.Edition.the-variants.{Flown, Corrected}
 use Rattle.base.specs.declared.Written.{Written}
 use Rattle.header.specs.Fields.{satelliteOf, radioOf}
 use Rattle.header.specs.Rules.{usualRules}
-use Rattle.header.specs.Reading.{signal}
+use Rattle.header.specs.Reading.{signal, signed}
 use Rattle.header.specs.Patterns.{beside, headerRead}
 use Rattle.header.specs.Writing.{afterWrite, HeaderWritten}
-use Rattle.frame.specs.Frames.{frame, frameRead}
+use Rattle.frame.specs.Frames.{frame, signedFrame, frameRead}
 use Rattle.sheet.specs.declared.Lane.{Lane}
 use Rattle.sheet.specs.declared.Display.{Display}
 use Rattle.sheet.specs.declared.Sheet.{Sheet}
@@ -67,6 +69,18 @@ crc13-one payload r s = one
 pub worst-one : (patterns : List ℕ) (r s : ℕ) → r ≡ worstOf patterns → s ≡ worstOf patterns → r ≡ s
 worst-one patterns r s = one
 
+pub call-sign-one : (satellite : ℕ) (r s : List ℕ) → r ≡ signOf satellite → s ≡ signOf satellite → r ≡ s
+call-sign-one satellite r s = one
+
+pub looks-at-one : (edition : Edition) (r s : Bool) → r ≡ looksAt edition → s ≡ looksAt edition → r ≡ s
+looks-at-one edition r s = one
+
+pub fault-at-one : (looked : Bool) (call : List ℕ) (r s : ℕ) → r ≡ faultAt (callOf looked call) → s ≡ faultAt (callOf looked call) → r ≡ s
+fault-at-one looked call r s = one
+
+pub other-at-one : (looked : Bool) (call : List ℕ) (satellite r s : ℕ) → r ≡ otherAt (callOf looked call) satellite → s ≡ otherAt (callOf looked call) satellite → r ≡ s
+other-at-one looked call satellite r s = one
+
 pub with-patterns-one : (answer : Answer) (patterns : List ℕ) (r s : Read) → r ≡ beside patterns answer → s ≡ beside patterns answer → r ≡ s
 with-patterns-one answer patterns r s = one
 
@@ -82,6 +96,9 @@ usual-one edition r s = one
 pub read-header-one : (rules : Rules) (air : List ℕ) (r s : Read) → r ≡ headerRead (signal rules air) → s ≡ headerRead (signal rules air) → r ≡ s
 read-header-one rules air r s = one
 
+pub read-header-signed-one : (rules : Rules) (call air : List ℕ) (r s : Read) → r ≡ headerRead (signed rules call air) → s ≡ headerRead (signed rules call air) → r ≡ s
+read-header-signed-one rules call air r s = one
+
 -- the answer, and every byte of the output afterwards
 pub write-header-one : (edition : Edition) (fields : Fields) (payload out : List ℕ) (r s : Written) (out-r out-s : List ℕ)
     → HeaderWritten edition fields payload out r out-r → HeaderWritten edition fields payload out s out-s → (r ≡ s) × (out-r ≡ out-s)
@@ -91,6 +108,10 @@ write-header-one edition fields payload out r s out-r out-s a b =
 
 pub read-frame-one : (rules : Rules) (air payload : List ℕ) (r s : Read) → r ≡ frameRead (frame rules air payload) → s ≡ frameRead (frame rules air payload) → r ≡ s
 read-frame-one rules air payload r s = one
+
+pub read-frame-signed-one : (rules : Rules) (call air payload : List ℕ) (r s : Read)
+    → r ≡ frameRead (signedFrame rules call air payload) → s ≡ frameRead (signedFrame rules call air payload) → r ≡ s
+read-frame-signed-one rules call air payload r s = one
 
 pub read-page-one : (payload : List ℕ) (r s : PageAnswer) → r ≡ pageOf payload → s ≡ pageOf payload → r ≡ s
 read-page-one payload r s = one
@@ -111,6 +132,10 @@ new-sheet-one r s = one
 -- the answer, and the whole sheet afterwards
 pub offer-one : (sheet : Sheet) (rules : Rules) (air payload : List ℕ) (r s : Offered) → r ≡ offerOf Flown sheet (frame rules air payload) → s ≡ offerOf Flown sheet (frame rules air payload) → r ≡ s
 offer-one sheet rules air payload r s = one
+
+pub offer-signed-one : (sheet : Sheet) (rules : Rules) (call air payload : List ℕ) (r s : Offered)
+    → r ≡ offerOf Flown sheet (signedFrame rules call air payload) → s ≡ offerOf Flown sheet (signedFrame rules call air payload) → r ≡ s
+offer-signed-one sheet rules call air payload r s = one
 
 pub accepted-one : (sheet : Sheet) (r s : ℕ) → r ≡ acceptedOf Flown sheet → s ≡ acceptedOf Flown sheet → r ≡ s
 accepted-one sheet r s = one

@@ -7,3 +7,4 @@ pub mod Editions
 pub mod Catches
 pub mod Marked
 pub mod Determined
+pub mod CallSign

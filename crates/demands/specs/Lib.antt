@@ -1,3 +1,4 @@
 pub mod Examples
 pub mod Zeros
 pub mod Changes
+pub mod Unsigned

@@ -32,7 +32,7 @@ module _ (f : Frame) (h : Header) (k : ℕ) (e : frameOf f ≡ Accepted h k) whe
       rw (so .counted) (sum-le radius wordCount (λ j. flipCount (getD (patternsOf (f .head)) j 0)) (λ j below. patterns-few (arrived (f .head)) j))
 
 -- the number of a refusal; 0 where there is none
-abbrev numberIn : Answer → ℕ
+abbrev pub numberIn : Answer → ℕ
 numberIn (Accepted h k) = 0
 numberIn (Refused why) = why .number
 

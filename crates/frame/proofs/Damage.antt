@@ -17,10 +17,11 @@ use Rattle.air.proofs.Places.{words-at, words-lt}
 use Rattle.air.proofs.Restored.{restored-patterns}
 use Rattle.air.proofs.Flipped.{word-flips, all-flips, all-patterns}
 use Rattle.air.proofs.Bursts.{burst-few, burst-total}
+use Rattle.sign.specs.Calls.{Call, Agrees}
 use Rattle.header.specs.declared.Fields.{Fields}
 use Rattle.header.specs.declared.Rules.{Rules}
 use Rattle.header.specs.declared.Answer.the-variants.{Accepted}
-use Rattle.header.specs.Fields.{codedOf}
+use Rattle.header.specs.Fields.{satelliteOf, codedOf}
 use Rattle.header.specs.Writing.{bitsFor, headerFor, airFor}
 use Rattle.header.specs.Reading.{signal}
 use Rattle.header.specs.Patterns.{beside}
@@ -28,7 +29,7 @@ use Rattle.header.proofs.Passed.{Writable}
 use Rattle.header.proofs.GoesOn.{ReadAs}
 use Rattle.header.proofs.Carried.{coded-valid}
 use Rattle.header.proofs.RoundTrip.{written-words, written-are-bits, header-restored}
-use Rattle.frame.specs.Frames.{Frame, frame, frameOf, frameRead}
+use Rattle.frame.specs.Frames.{Frame, frameWith, frameOf, frameRead}
 use Rattle.frame.proofs.Payloads.{frame-reads}
 
 -- a header that was written for the frame's payload is accepted with it
@@ -60,13 +61,13 @@ module _ (edition : Edition) (f : Fields) (payload air : List ℕ) (bits : AreBi
 
 -- read and written under one edition
 module _ (rules : Rules) (f : Fields) (payload air : List ℕ) (bits : AreBits air) (ok : Writable (rules .edition) f payload) (long : length air ≡ airBits)
-    (allowed : rules .limit ≤ mostFlips) where
+    (allowed : rules .limit ≤ mostFlips) (call : Call) (agrees : Agrees call (satelliteOf (f .«src_id»))) where
   abbrev written : List ℕ
   written = airFor (rules .edition) f payload
 
   -- at most three flips in each word
   pub restored-frame : ((j : ℕ) → j < wordCount → flipsInWord air (airFor (rules .edition) f payload) j ≤ radius) → flipsBetween air (airFor (rules .edition) f payload) ≤ rules .limit
-      → frameRead (frame rules air payload)
+      → frameRead (frameWith rules call air payload)
       ≡ record { answer = Accepted (headerFor (rules .edition) f payload) (flipsBetween air (airFor (rules .edition) f payload)); patterns = flipPatterns air (airFor (rules .edition) f payload) }
   unfolding frameRead
   restored-frame few within =
@@ -75,11 +76,11 @@ module _ (rules : Rules) (f : Fields) (payload air : List ℕ) (bits : AreBits a
       let close : AllClose (wordsOf air) valid = damaged-close edition f payload air bits few in
       let flips : distances (wordsOf air) valid ≡ flipsBetween air written = damaged-flips edition f payload air bits in
       ap₂ beside (restored-patterns (wordsOf air) (words-lt air bits) valid close ∙ damaged-patterns edition f payload air bits)
-      (with-payload edition f (frame rules air payload) (flipsBetween air written) (rw flips at (header-restored rules f payload ok allowed air long bits close (rw flips within))))
+      (with-payload edition f (frameWith rules call air payload) (flipsBetween air written) (rw flips at (header-restored rules f payload ok allowed call agrees air long bits close (rw flips within))))
 
   -- a burst: all flips among so many neighbouring bits as the limit allows
   pub restored-burst : (start : ℕ) → Burst (rules .limit) start air (airFor (rules .edition) f payload)
-      → frameRead (frame rules air payload)
+      → frameRead (frameWith rules call air payload)
       ≡ record { answer = Accepted (headerFor (rules .edition) f payload) (flipsBetween air (airFor (rules .edition) f payload)); patterns = flipPatterns air (airFor (rules .edition) f payload) }
   restored-burst start burst =
       restored-frame (burst-few (rules .limit) start air written burst allowed) (burst-total (rules .limit) start air written burst)

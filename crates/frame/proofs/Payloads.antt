@@ -1,6 +1,7 @@
 -- Rows 7 and 8 of the paper's table, and the frame's answer from the header's.
 -- Assumes nothing.
 use mathlib.Core.Path.{_≡_, refl, sym, ap₂, _∙_}
+use mathlib.Core.Bool.{Bool}
 use mathlib.Core.List.{List, [], _∷_}
 use Prim.Native.Nat.{ℕ}
 use lib.ListN.{length, replicate}
@@ -11,17 +12,18 @@ use Rattle.base.specs.Checks.{first, refusal}
 use Rattle.base.proofs.First.{never-both, NoneApplies, none-split, first-passes}
 use Rattle.base.proofs.Tests.{not-differs}
 use Rattle.crc.specs.Crc.{crc13Of}
+use Rattle.sign.specs.Calls.{Call, callOf, looksAt}
 use Rattle.header.specs.declared.Header.{Header}
 use Rattle.header.specs.declared.Read.{Read}
 use Rattle.header.specs.declared.Rules.{Rules}
 use Rattle.header.specs.declared.Answer.{Answer}
 use Rattle.header.specs.declared.Answer.the-variants.{Accepted, Refused}
 use Rattle.air.specs.Air.{wordCount}
-use Rattle.header.specs.Reading.{signal, signalChecks, repairedAnswer, readHeaderOf}
+use Rattle.header.specs.Reading.{signalWith, signalChecks, repairedAnswer, readHeaderOf}
 use Rattle.header.specs.Patterns.{beside, patternsOf, headerRead}
 use Rattle.header.proofs.Beside.{beside-refused, read-answer, read-patterns}
 use Rattle.header.proofs.GoesOn.{no-row, never-accepted, ReadAs, read-as, header-refused, header-leaves}
-use Rattle.frame.specs.Frames.{Frame, frame, repairedHeader, crc13Differs, payloadChecks, frameChecks, frameOf, frameRead}
+use Rattle.frame.specs.Frames.{Frame, signedFrame, frameWith, repairedHeader, crc13Differs, payloadChecks, frameChecks, frameOf, frameRead}
 
 module _ (h : Header) (flips : ℕ) (payload : List ℕ) where
   abbrev judged : Answer
@@ -84,17 +86,22 @@ module _ (f : Frame) where
         record { header = record { is = passed .0; passed = parts .0 }; payload = rw same at (payload-passed (repairedHeader f) (f .payload) (parts .1)) }
 
 -- THE SAME, as the reader finds it: r is what was read of the header, and judged what is judged of the payload
-module _ (rules : Rules) (air payload : List ℕ) (read : Read) (is : read ≡ headerRead (signal rules air)) where
-  pub frame-refused : (why : Refusal) → read .answer ≡ Refused why → _≡_ {A = Read} (record { answer = Refused why; patterns = replicate wordCount 0 }) (frameRead (frame rules air payload))
+module _ (rules : Rules) (call : Call) (air payload : List ℕ) (read : Read) (is : read ≡ headerRead (signalWith rules call air)) where
+  pub frame-refused : (why : Refusal) → read .answer ≡ Refused why → _≡_ {A = Read} (record { answer = Refused why; patterns = replicate wordCount 0 }) (frameRead (frameWith rules call air payload))
   unfolding frameRead
   frame-refused why e =
-      beside-refused (patternsOf (signal rules air)) (frameOf (frame rules air payload)) why
-      (refused-head (frame rules air payload) why (sym (read-answer (signal rules air) read is) ∙ e))
+      beside-refused (patternsOf (signalWith rules call air)) (frameOf (frameWith rules call air payload)) why
+      (refused-head (frameWith rules call air payload) why (sym (read-answer (signalWith rules call air) read is) ∙ e))
 
   pub frame-left : (h : Header) (k : ℕ) (judged : Answer) (r : Read) → read .answer ≡ Accepted h k → judged ≡ first (Accepted h k) (payloadChecks h payload)
-      → r ≡ beside (read .patterns) judged → r ≡ frameRead (frame rules air payload)
+      → r ≡ beside (read .patterns) judged → r ≡ frameRead (frameWith rules call air payload)
   unfolding frameRead
   frame-left h k judged r e so made =
       made
-      ∙ ap₂ beside (read-patterns (signal rules air) read is h k e)
-      (so ∙ sym (left-to-payload (frame rules air payload) h k (read-as (signal rules air) h k (sym (read-answer (signal rules air) read is) ∙ e))))
+      ∙ ap₂ beside (read-patterns (signalWith rules call air) read is h k e)
+      (so ∙ sym (left-to-payload (frameWith rules call air payload) h k (read-as (signalWith rules call air) h k (sym (read-answer (signalWith rules call air) read is) ∙ e))))
+
+-- call sign bits, looked at where the edition says so
+pub as-looked-at : (rules : Rules) (looked : Bool) (call air payload : List ℕ) (r : Read) → looked ≡ looksAt (rules .edition) → r ≡ frameRead (frameWith rules (callOf looked call) air payload)
+    → r ≡ frameRead (signedFrame rules call air payload)
+as-looked-at rules looked call air payload r is e = rw is at e

@@ -3,7 +3,8 @@
 -- Assumes nothing.
 use mathlib.Core.Path.{_≡_, refl, sym, ap, ap₂, _∙_}
 use mathlib.Core.List.{List}
-use Prim.Native.Nat.{ℕ}
+use Prim.Native.Nat.{ℕ, _≤_}
+use native.Mathlib.Omega.{arith}
 use Rattle.base.specs.declared.Refusal.{Refusal}
 use Rattle.base.specs.Checks.{first, Exactly}
 use Rattle.base.proofs.Exactly.{exactly}
@@ -13,11 +14,14 @@ use Rattle.air.specs.Closeness.{AllClose, distances}
 use Rattle.air.proofs.Places.{words-lt}
 use Rattle.air.proofs.Answers.{flips-are-ones}
 use Rattle.air.proofs.Restored.{distances-are, restored-patterns, repaired-all-close}
+use Rattle.sign.specs.CallSigns.{signWidth}
+use Rattle.sign.specs.Calls.{otherAt}
+use Rattle.sign.proofs.Agreeing.{tests-agree, agrees-fault, agrees-other}
 use Rattle.header.specs.declared.Header.{Header}
 use Rattle.header.specs.declared.Read.{Read}
 use Rattle.header.specs.declared.Answer.{Answer}
 use Rattle.header.specs.declared.Answer.the-variants.{Accepted, Refused}
-use Rattle.header.specs.Fields.{headerOf, bitsOfWords}
+use Rattle.header.specs.Fields.{satelliteOf, headerOf, bitsOfWords}
 use Rattle.header.specs.Reading.{arrived, repairedBits, airChecks, headerChecks, repairedAnswer}
 use Rattle.header.specs.Patterns.{beside, patternsOf}
 use Rattle.header.proofs.Beside.{beside-answer}
@@ -33,11 +37,13 @@ module _ (f : Frame) (h : Header) (k : ℕ) where
   rules-then-answer : (patterns : List ℕ) → Accepts f h k patterns → frameOf f ≡ Accepted h k
   rules-then-answer patterns so =
       let flips : k ≡ distances (arrived (f .head)) (so .words) = so .counted ∙ ap flipTotal (so .patterned) ∙ sym (distances-are (arrived (f .head)) (so .words)) in
-      let passed : HeaderPassed (f .head .rules) (distances (arrived (f .head)) (so .words)) (bitsOfWords (so .words)) =
-      record { within = rw (← flips) (so .within-limit); same-crc5 = rw (← so .made) (so .same-crc5); known-source = rw (← so .made) (so .known-source); known-coding = rw (← so .made) (so .known-coding) } in
+      let sat : ℕ = satelliteOf (h .«fields» .«src_id») in
+      let agrees : signWidth ≤ otherAt (f .head .call) sat = omega (arith, agrees-other (f .head .call) sat (so .same-sign)) in
+      let passed : HeaderPassed (f .head .rules) (f .head .call) (distances (arrived (f .head)) (so .words)) (bitsOfWords (so .words)) =
+      record { within = rw (← flips) (so .within-limit); same-crc5 = rw (← so .made) (so .same-crc5); known-source = rw (← so .made) (so .known-source); same-sign = rw (← so .made) agrees; known-coding = rw (← so .made) (so .known-coding) } in
       frame-reads f h k
       (record {
-        header = rw (← so .made, ← flips) at (restored (f .head) (so .words) (so .long) (so .bits) (so .close) (so .known-limit) passed);
+        header = rw (← so .made, ← flips) at (restored (f .head) (so .words) (so .long) (so .bits) (so .close) (so .known-limit) (agrees-fault (f .head .call) sat (so .same-sign)) passed);
         payload = record { same-length = so .same-length; same-crc13 = so .same-crc13 };
       })
 
@@ -53,9 +59,9 @@ module _ (f : Frame) (h : Header) (k : ℕ) where
       let n : ℕ = repairedBits (f .head) in
       let made : headerOf n ≡ h = cc (so .header .is) in
       let flips : flipsIn (arrived (f .head)) ≡ k = cc (so .header .is) in
-      let parts = none-split (airChecks (f .head)) (headerChecks (f .head .rules) (flipsIn (arrived (f .head))) n) (so .header .passed) in
+      let parts = none-split (airChecks (f .head)) (headerChecks (f .head .rules) (f .head .call) (flipsIn (arrived (f .head))) n) (so .header .passed) in
       let air = air-passed (f .head) (parts .0) in
-      let header = header-passed (f .head .rules) (flipsIn (arrived (f .head))) n (parts .1) in
+      let header = header-passed (f .head .rules) (f .head .call) (flipsIn (arrived (f .head))) n (parts .1) in
       let small = words-lt (f .head .air) (air .bits) in
       let close : AllClose (arrived (f .head)) (repairedOf (arrived (f .head))) = repaired-all-close (arrived (f .head)) small (air .repairable) in
       record {
@@ -66,6 +72,7 @@ module _ (f : Frame) (h : Header) (k : ℕ) where
         made = sym made;
         same-crc5 = rw made at (header .same-crc5);
         known-source = rw made at (header .known-source);
+        same-sign = tests-agree (f .head .call) (satelliteOf (h .«fields» .«src_id»)) (air .sound-call) (rw made at (header .same-sign));
         known-coding = rw made at (header .known-coding);
         same-length = so .payload .same-length;
         same-crc13 = so .payload .same-crc13;

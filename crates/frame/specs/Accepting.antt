@@ -12,8 +12,9 @@ use Rattle.air.specs.Air.{airBits, wordsOf}
 use Rattle.air.specs.WordRepairs.{flipTotal}
 use Rattle.air.specs.Closeness.{AllClose, differences}
 use Rattle.air.specs.Flips.{mostFlips}
+use Rattle.sign.specs.Calls.{Agrees}
 use Rattle.header.specs.declared.Header.{Header}
-use Rattle.header.specs.Fields.{lastSourceOf, lastCoding, headerOf, bitsOfWords}
+use Rattle.header.specs.Fields.{lastSourceOf, lastCoding, satelliteOf, headerOf, bitsOfWords}
 use Rattle.frame.specs.Frames.{Frame}
 
 pub record Accepts (f : Frame) (header : Header) (flips : ℕ) (patterns : List ℕ) : Type 0 where
@@ -28,6 +29,8 @@ pub record Accepts (f : Frame) (header : Header) (flips : ℕ) (patterns : List 
   -- the checks of the paper's table, 4 to 8, do not apply
   pub same-crc5 : crc5Of (f .head .rules .edition) (bitsOfWords words) ≡ header .«crc5»
   pub known-source : header .«fields» .«src_id» ≤ lastSourceOf (f .head .rules .edition)
+  -- "Where they are looked at", the call sign bits are "48 elements, each 0 or 1, that spell the call sign of the repaired header's satellite"
+  pub same-sign : Agrees (f .head .call) (satelliteOf (header .«fields» .«src_id»))
   pub known-coding : header .«fields» .«ai_type_src» ≤ lastCoding
   pub same-length : length (f .payload) ≡ header .«pdu_length»
   pub same-crc13 : crc13Of (f .payload) ≡ header .«crc13»

@@ -1,19 +1,20 @@
--- A frame, read: refused with 20, 1 to 3, 21, 4 to 8, or the repaired header and the number of flips, with the patterns beside it.
+-- A frame, read: refused with 20, 1, 2, 23, 3, 21, 4, 5, 24, 6 to 8, or the repaired header and the number of flips, with the patterns beside it.
 -- Assumes nothing.
 use mathlib.Core.Bool.{not}
 use mathlib.Core.List.{List, [], _∷_, _++_}
 use Prim.Native.Nat.{ℕ}
 use lib.Dec.{eqb}
-use lib.ListN.{length}
+use lib.ListN.{length, drop}
 use Rattle.base.specs.Checks.{Check, check, first, refusal}
 use Rattle.crc.specs.Crc.{crc13Of}
+use Rattle.sign.specs.Calls.{Call}
 use Rattle.header.specs.declared.Header.{Header}
 use Rattle.header.specs.declared.Rules.{Rules}
 use Rattle.header.specs.declared.Read.{Read}
 use Rattle.header.specs.declared.Answer.{Answer}
 use Rattle.header.specs.declared.Answer.the-variants.{Refused}
 use Rattle.header.specs.Fields.{headerOf}
-use Rattle.header.specs.Reading.{Signal, signal, repairedBits, signalChecks, repairedAnswer}
+use Rattle.header.specs.Reading.{Signal, signalWith, signal, signed, repairedBits, signalChecks, repairedAnswer}
 use Rattle.header.specs.Patterns.{beside, patternsOf}
 
 -- a frame as it is offered: what its header is read from, and its payload
@@ -23,6 +24,14 @@ pub record Frame : Type 0 where
 
 abbrev pub frame : Rules → List ℕ → List ℕ → Frame
 frame rules air payload = record { head = signal rules air; payload = payload }
+
+-- and with call sign bits
+abbrev pub signedFrame : Rules → List ℕ → List ℕ → List ℕ → Frame
+signedFrame rules call air payload = record { head = signed rules call air; payload = payload }
+
+-- both: what is looked at of a call sign is named
+abbrev pub frameWith : Rules → Call → List ℕ → List ℕ → Frame
+frameWith rules call air payload = record { head = signalWith rules call air; payload = payload }
 
 -- the header that its words are repaired to
 abbrev pub repairedHeader : Frame → Header
@@ -44,9 +53,12 @@ payloadChecks h payload = otherLength h payload ∷ crc13Differs h payload ∷ [
 abbrev pub frameChecks : Frame → List (Check Answer)
 frameChecks f = signalChecks (f .head) ++ payloadChecks (repairedHeader f) (f .payload)
 
--- their numbers: the whole order at a glance
+-- THE WHOLE ORDER at a glance: a sheet's two rows (17, 22), and then the frame's
+abbrev pub wholeOrder : List ℕ
+wholeOrder = 17 ∷ 22 ∷ 20 ∷ 1 ∷ 2 ∷ 23 ∷ 3 ∷ 21 ∷ 4 ∷ 5 ∷ 24 ∷ 6 ∷ 7 ∷ 8 ∷ []
+
 abbrev pub frameNumbers : List ℕ
-frameNumbers = 20 ∷ 1 ∷ 2 ∷ 3 ∷ 21 ∷ 4 ∷ 5 ∷ 6 ∷ 7 ∷ 8 ∷ []
+frameNumbers = drop 2 wholeOrder
 
 -- "Frame, in this order; the first that applies is given"
 unfoldable pub frameOf : Frame → Answer

@@ -11,7 +11,8 @@ use word::table::TABLE_ROWS;
 ghost use mathlib.Core.Path.{_≡_};
 ghost use Rattle.base.specs.Checks.{first};
 ghost use Rattle.word.specs.Repairs.{syndromes};
-ghost use Rattle.frame.specs.Frames.{frame, payloadChecks, frameRead};
+ghost use Rattle.sign.specs.Calls.{callOf};
+ghost use Rattle.frame.specs.Frames.{frame, signedFrame, frameWith, payloadChecks, frameRead};
 
 // Checks 7 and 8 on the payload of an accepted header.
 fn judge_payload(header: Header, flips: u32, payload: &[u8]) -> Answer
@@ -34,12 +35,20 @@ fn judge_payload(header: Header, flips: u32, payload: &[u8]) -> Answer
     Answer::Accepted { header, flips }
 }
 
-// The reader, by a lent copy of the syndrome table: what a caller with many frames copies once.
-pub fn read_frame_in(table: &[u16; TABLE_ROWS], rules: Rules, air: &[u8], payload: &[u8]) -> Read
+// The reader, by a lent copy of the syndrome table: what a caller with many frames copies once. `looked` says whether call sign bits
+// are looked at, and `call` which.
+pub fn read_frame_with(
+    table: &[u16; TABLE_ROWS],
+    rules: Rules,
+    looked: bool,
+    call: &[u8],
+    air: &[u8],
+    payload: &[u8],
+) -> Read
     requires { ⌜ now table ≡ syndromes ⌝ }
-    ensures { λ r. ⌜ r ≡ frameRead (frame rules (now (air .entry)) (now (payload .entry))) ⌝ }
+    ensures { λ r. ⌜ r ≡ frameRead (frameWith rules (callOf looked (now (call .entry))) (now (air .entry)) (now (payload .entry))) ⌝ }
 {
-    let read = header::read_header_in(table, rules, air);
+    let read = header::read_header_with(table, rules, looked, call, air);
     let answer = read.answer;
     match answer {
         Answer::Refused(why) => Read {
@@ -53,6 +62,14 @@ pub fn read_frame_in(table: &[u16; TABLE_ROWS], rules: Rules, air: &[u8], payloa
     }
 }
 
+// The same with no call sign bits.
+pub fn read_frame_in(table: &[u16; TABLE_ROWS], rules: Rules, air: &[u8], payload: &[u8]) -> Read
+    requires { ⌜ now table ≡ syndromes ⌝ }
+    ensures { λ r. ⌜ r ≡ frameRead (frame rules (now (air .entry)) (now (payload .entry))) ⌝ }
+{
+    read_frame_with(table, rules, false, b"", air, payload)
+}
+
 // The reader of any two slices: accepted with the repaired header, the number of flips and the patterns, or the first refusal
 // of 20, 1, 2, 3, 21, 4, 5, 6, 7, 8. A checksum that differs is a refusal, so it is never told beside an accepted frame.
 pub fn read_frame(rules: Rules, air: &[u8], payload: &[u8]) -> Read
@@ -60,4 +77,13 @@ pub fn read_frame(rules: Rules, air: &[u8], payload: &[u8]) -> Read
 {
     let table = word::table::whole();
     read_frame_in(&table, rules, air, payload)
+}
+
+// The same with call sign bits, any bytes: 23 after 2, and 24 after 5. Under the corrected edition they are not looked at.
+pub fn read_frame_signed(rules: Rules, call: &[u8], air: &[u8], payload: &[u8]) -> Read
+    ensures { λ r. ⌜ r ≡ frameRead (signedFrame rules (now (call .entry)) (now (air .entry)) (now (payload .entry))) ⌝ }
+{
+    let named = rules.edition;
+    let table = word::table::whole();
+    read_frame_with(&table, rules, sign::looks_at(named), call, air, payload)
 }

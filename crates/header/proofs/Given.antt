@@ -13,7 +13,7 @@ use Rattle.header.specs.Reading.{Signal, signalChecks, repairedAnswer, r
 use Rattle.header.specs.Writing.{writeChecks, writeHeaderOf}
 use Rattle.header.proofs.GoesOn.{not-refused}
 
--- 20, 1 to 3, 21, 4 to 6
+-- 20, 1, 2, 23, 3, 21, 4, 5, 24, 6
 pub read-exactly : (s : Signal) (why : Refusal) → Exactly (readHeaderOf s) (Refused why) (signalChecks s)
 unfolding readHeaderOf
 read-exactly s why = exactly (repairedAnswer s) (Refused why) (signalChecks s) (not-refused s why)

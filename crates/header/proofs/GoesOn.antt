@@ -32,7 +32,7 @@ module _ (s : Signal) where
 
   -- the rows refuse
   pub never-accepted : (h : Header) (k : ℕ) → Never (Accepted h k) (signalChecks s)
-  never-accepted h k = never-both (Accepted h k) (airChecks s) (headerChecks (s .rules) (flipsIn (arrived s)) (repairedBits s)) (search (needs, no-row)) (search (needs, no-row))
+  never-accepted h k = never-both (Accepted h k) (airChecks s) (headerChecks (s .rules) (s .call) (flipsIn (arrived s)) (repairedBits s)) (search (needs, no-row)) (search (needs, no-row))
 
   pub read-as : (h : Header) (k : ℕ) → readHeaderOf s ≡ Accepted h k → ReadAs h k
   unfolding readHeaderOf

@@ -27,6 +27,7 @@ use Rattle.air.specs.WordRepairs.{flipsIn}
 use Rattle.air.specs.Closeness.{AllClose, distances}
 use Rattle.air.proofs.Places.{words-lt}
 use Rattle.air.proofs.Restored.{restored-flips, close-self, distances-self}
+use Rattle.sign.specs.Calls.{absent}
 use Rattle.header.specs.declared.Fields.{Fields}
 use Rattle.header.specs.declared.Header.{Header}
 use Rattle.header.specs.declared.Rules.{Rules}
@@ -66,7 +67,7 @@ known-everywhere Flown src h = h
 known-everywhere Corrected src h = omega arith
 
 -- no flips, and a CRC5 that differs
-judged-4 : (a : Answer) (rules : Rules) (n crc : ℕ) → crc ≡ crc5Of (rules .edition) n → (crc ≡ headerOf n .«crc5» → ⊥) → first a (headerChecks rules 0 n) ≡ Refused (refusal 4 crc)
+judged-4 : (a : Answer) (rules : Rules) (n crc : ℕ) → crc ≡ crc5Of (rules .edition) n → (crc ≡ headerOf n .«crc5» → ⊥) → first a (headerChecks rules absent 0 n) ≡ Refused (refusal 4 crc)
 judged-4 a rules n crc is apart = rw (le-ltb (rules .limit) 0 zero-le, ← is, ne-eqb crc (headerOf n .«crc5») apart)
 
 -- so fields that one edition lets be written, the other does too
@@ -117,7 +118,7 @@ module _ (edition : Edition) (f : Fields) (payload : List ℕ) (ok : Writable ed
     reads-same zeros =
         let none : countedFlown n ≡ n = none-of-four n (written-lt edition f payload ok) zeros in
         let back : ReadAs (signal rules (airFor edition f payload)) (headerFor edition f payload) 0 =
-        rw (same-air none, same-header none) at (header-read-back rules f payload (writable-too edition (rules .edition) f payload ok known) allowed) in
+        rw (same-air none, same-header none) at (header-read-back rules f payload (writable-too edition (rules .edition) f payload ok known) allowed absent tt) in
         first-none (repairedAnswer (signal rules (airFor edition f payload))) (signalChecks (signal rules (airFor edition f payload))) (back .passed) ∙ back .is
 
   -- ONE OF THEM IS SET
@@ -132,7 +133,7 @@ module _ (edition : Edition) (f : Fields) (payload : List ℕ) (ok : Writable ed
     close = rw (written-words edition f payload) (close-self coded (coded-valid n))
 
     bits-are : repairedBits s ≡ n
-    bits-are = restored-bits s coded (air-for-length edition f payload) (written-are-bits edition f payload) close allowed ∙ written-bits edition f payload ok
+    bits-are = restored-bits s coded (air-for-length edition f payload) (written-are-bits edition f payload) close allowed refl ∙ written-bits edition f payload ok
 
     no-flips : flipsIn (arrived s) ≡ 0
     no-flips =
@@ -148,8 +149,8 @@ module _ (edition : Edition) (f : Fields) (payload : List ℕ) (ok : Writable ed
     refused-4 other k from to set =
         let apart : crc5Of (rules .edition) n ≡ headerOf n .«crc5» → ⊥ =
         λ (e : crc5Of (rules .edition) n ≡ headerOf n .«crc5»). differ edition (rules .edition) other n (written-lt edition f payload ok) (one-of-four n k from to set) (e ∙ carried) in
-        let passed = air-passes s (restored-passed s coded (air-for-length edition f payload) (written-are-bits edition f payload) close allowed) in
-        first-append (repairedAnswer s) (airChecks s) (headerChecks rules (flipsIn (arrived s)) (repairedBits s))
-        ∙ first-none (first (repairedAnswer s) (headerChecks rules (flipsIn (arrived s)) (repairedBits s))) (airChecks s) passed
-        ∙ ap₂ (λ (flips b : ℕ). first (repairedAnswer s) (headerChecks rules flips b)) no-flips bits-are
+        let passed = air-passes s (restored-passed s coded (air-for-length edition f payload) (written-are-bits edition f payload) close allowed refl) in
+        first-append (repairedAnswer s) (airChecks s) (headerChecks rules absent (flipsIn (arrived s)) (repairedBits s))
+        ∙ first-none (first (repairedAnswer s) (headerChecks rules absent (flipsIn (arrived s)) (repairedBits s))) (airChecks s) passed
+        ∙ ap₂ (λ (flips b : ℕ). first (repairedAnswer s) (headerChecks rules absent flips b)) no-flips bits-are
         ∙ judged-4 (repairedAnswer s) rules n (crc5Of (rules .edition) n) refl apart

@@ -16,17 +16,20 @@ use Rattle.air.specs.WordRepairs.{firstBeyond}
 use Rattle.air.specs.Flips.{mostFlips}
 use Rattle.air.proofs.Bits.{are-bits, no-bit-none, no-bit-le}
 use Rattle.air.proofs.Answers.{beyond-le}
+use Rattle.sign.specs.CallSigns.{signWidth}
+use Rattle.sign.specs.Calls.{Call, faultAt, otherAt}
 use Rattle.header.specs.declared.Fields.{Fields}
 use Rattle.header.specs.declared.Rules.{Rules}
-use Rattle.header.specs.Fields.{fieldCount, valuesOf, lastSourceOf, lastCoding, headerOf}
+use Rattle.header.specs.Fields.{fieldCount, valuesOf, lastSourceOf, lastCoding, satelliteOf, headerOf}
 use Rattle.header.specs.Reading.{Signal, arrived, airChecks, headerChecks}
 use Rattle.header.specs.Writing.{firstOver, writeChecks}
 
--- 20, 1 to 3
+-- 20, 1, 2, 23, 3
 pub record AirPassed (s : Signal) : Type 0 where
   pub allowed : s .rules .limit ≤ mostFlips
   pub long : length (s .air) ≡ airBits
   pub bits : AreBits (s .air)
+  pub sound-call : faultAt (s .call) ≡ signWidth
   pub repairable : firstBeyond (arrived s) ≡ wordCount
 
 module _ (s : Signal) where
@@ -37,7 +40,8 @@ module _ (s : Signal) where
         allowed = ltb-false mostFlips (s .rules .limit) (none .0);
         long = long;
         bits = are-bits (s .air) (omega (arith, long, no-bit-le (s .air), ltb-false (firstNoBit (s .air)) airBits (none .1 .1 .0)));
-        repairable = omega (arith, beyond-le (arrived s), ltb-false (firstBeyond (arrived s)) wordCount (none .1 .1 .1 .0));
+        sound-call = not-differs (faultAt (s .call)) signWidth (none .1 .1 .1 .0);
+        repairable = omega (arith, beyond-le (arrived s), ltb-false (firstBeyond (arrived s)) wordCount (none .1 .1 .1 .1 .0));
       }
 
   pub air-passes : AirPassed s → NoneApplies (airChecks s)
@@ -47,35 +51,43 @@ module _ (s : Signal) where
       differs-not (length (s .air)) airBits (so .long),
       (
         le-ltb (firstNoBit (s .air)) airBits (omega (arith, so .long, no-bit-none (s .air) (so .bits))),
-        (le-ltb (firstBeyond (arrived s)) wordCount (omega (arith, so .repairable)), tt),
+        (
+          differs-not (faultAt (s .call)) signWidth (so .sound-call),
+          (le-ltb (firstBeyond (arrived s)) wordCount (omega (arith, so .repairable)), tt),
+        ),
       ),
     ),
   )
 
--- 21, 4 to 6
-pub record HeaderPassed (rules : Rules) (flips n : ℕ) : Type 0 where
+-- 21, 4, 5, 24, 6
+pub record HeaderPassed (rules : Rules) (call : Call) (flips n : ℕ) : Type 0 where
   pub within : flips ≤ rules .limit
   pub same-crc5 : crc5Of (rules .edition) n ≡ headerOf n .«crc5»
   pub known-source : headerOf n .«fields» .«src_id» ≤ lastSourceOf (rules .edition)
+  pub same-sign : signWidth ≤ otherAt call (satelliteOf (headerOf n .«fields» .«src_id»))
   pub known-coding : headerOf n .«fields» .«ai_type_src» ≤ lastCoding
 
-module _ (rules : Rules) (flips n : ℕ) where
-  pub header-passed : NoneApplies (headerChecks rules flips n) → HeaderPassed rules flips n
+module _ (rules : Rules) (call : Call) (flips n : ℕ) where
+  pub header-passed : NoneApplies (headerChecks rules call flips n) → HeaderPassed rules call flips n
   header-passed none = record {
     within = ltb-false (rules .limit) flips (none .0);
     same-crc5 = not-differs (crc5Of (rules .edition) n) (headerOf n .«crc5») (none .1 .0);
     known-source = ltb-false (lastSourceOf (rules .edition)) (headerOf n .«fields» .«src_id») (none .1 .1 .0);
-    known-coding = ltb-false lastCoding (headerOf n .«fields» .«ai_type_src») (none .1 .1 .1 .0);
+    same-sign = ltb-false (otherAt call (satelliteOf (headerOf n .«fields» .«src_id»))) signWidth (none .1 .1 .1 .0);
+    known-coding = ltb-false lastCoding (headerOf n .«fields» .«ai_type_src») (none .1 .1 .1 .1 .0);
   }
 
-  pub header-passes : HeaderPassed rules flips n → NoneApplies (headerChecks rules flips n)
+  pub header-passes : HeaderPassed rules call flips n → NoneApplies (headerChecks rules call flips n)
   header-passes so = (
     le-ltb (rules .limit) flips (so .within),
     (
       differs-not (crc5Of (rules .edition) n) (headerOf n .«crc5») (so .same-crc5),
       (
         le-ltb (lastSourceOf (rules .edition)) (headerOf n .«fields» .«src_id») (so .known-source),
-        (le-ltb lastCoding (headerOf n .«fields» .«ai_type_src») (so .known-coding), tt),
+        (
+          le-ltb (otherAt call (satelliteOf (headerOf n .«fields» .«src_id»))) signWidth (so .same-sign),
+          (le-ltb lastCoding (headerOf n .«fields» .«ai_type_src») (so .known-coding), tt),
+        ),
       ),
     ),
   )

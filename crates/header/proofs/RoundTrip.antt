@@ -18,12 +18,15 @@ use Rattle.air.specs.Air.{airBits, wordsOf, airOf}
 use Rattle.air.specs.WordRepairs.{flipsIn}
 use Rattle.air.proofs.Places.{air-length, words-lt, words-back, air-bits}
 use Rattle.air.proofs.Restored.{restored-none, restored-words, restored-flips, close-self, distances-self}
+use Rattle.sign.specs.CallSigns.{signWidth}
+use Rattle.sign.specs.Calls.{Call, faultAt, Agrees}
+use Rattle.sign.proofs.Agreeing.{agrees-fault, agrees-other}
 use Rattle.header.specs.declared.Fields.{Fields}
 use Rattle.header.specs.declared.Header.{Header}
 use Rattle.header.specs.declared.Rules.{Rules}
 use Rattle.header.specs.declared.Answer.the-variants.{Accepted}
-use Rattle.header.specs.Fields.{valuesOf, headerFrom, headerOf, bitsOfWords, codedOf}
-use Rattle.header.specs.Reading.{headerChecks, Signal, airChecks, arrived, repairedAnswer, repairedBits, signal}
+use Rattle.header.specs.Fields.{valuesOf, satelliteOf, headerFrom, headerOf, bitsOfWords, codedOf}
+use Rattle.header.specs.Reading.{headerChecks, Signal, airChecks, arrived, repairedAnswer, repairedBits, signalWith}
 use Rattle.header.specs.Writing.{bitsWith, bitsFor, headerFor, airFor}
 use Rattle.header.proofs.Ranges.{in-range}
 use Rattle.header.proofs.Packing.{values-within}
@@ -36,12 +39,13 @@ use Rattle.base.proofs.First.{none-both}
 
 -- a header within three places of valid words with the bits n is read as these bits, with the places in which it differs
 module _ (s : Signal) (valid : List ℕ) (long : length (s .air) ≡ airBits) (bits : AreBits (s .air)) (close : AllClose (arrived s) valid)
-    (allowed : s .rules .limit ≤ mostFlips) where
+    (allowed : s .rules .limit ≤ mostFlips) (sound : faultAt (s .call) ≡ signWidth) where
   pub restored-passed : AirPassed s
   restored-passed = record {
     allowed = allowed;
     long = long;
     bits = bits;
+    sound-call = sound;
     repairable = restored-none (arrived s) (words-lt (s .air) bits) valid close;
   }
 
@@ -52,11 +56,11 @@ module _ (s : Signal) (valid : List ℕ) (long : length (s .air) ≡ airBits) (b
   restored-answer = ap₂ (λ (n k : ℕ). Accepted (headerOf n) k) restored-bits (restored-flips (arrived s) (words-lt (s .air) bits) valid close)
 
   -- so where no row stands against these bits, the header is accepted
-  pub restored : HeaderPassed (s .rules) (distances (arrived s) valid) (bitsOfWords valid) → ReadAs s (headerOf (bitsOfWords valid)) (distances (arrived s) valid)
+  pub restored : HeaderPassed (s .rules) (s .call) (distances (arrived s) valid) (bitsOfWords valid) → ReadAs s (headerOf (bitsOfWords valid)) (distances (arrived s) valid)
   restored passed = record {
     is = restored-answer;
-    passed = none-both (airChecks s) (headerChecks (s .rules) (flipsIn (arrived s)) (repairedBits s)) (air-passes s restored-passed)
-        (rw (restored-bits, restored-flips (arrived s) (words-lt (s .air) bits) valid close) (header-passes (s .rules) (distances (arrived s) valid) (bitsOfWords valid) passed));
+    passed = none-both (airChecks s) (headerChecks (s .rules) (s .call) (flipsIn (arrived s)) (repairedBits s)) (air-passes s restored-passed)
+        (rw (restored-bits, restored-flips (arrived s) (words-lt (s .air) bits) valid close) (header-passes (s .rules) (s .call) (distances (arrived s) valid) (bitsOfWords valid) passed));
   }
 
 pub air-for-length : (edition : Edition) (f : Fields) (payload : List ℕ) → length (airFor edition f payload) ≡ airBits
@@ -97,28 +101,30 @@ module _ (edition : Edition) (f : Fields) (payload : List ℕ) (ok : Writable ed
   written-bits = coded-bits (bitsFor edition f payload) written-lt
 
   -- and no check stands against them
-  written-passed : (limit flips : ℕ) → flips ≤ limit → HeaderPassed (record { edition = edition; limit = limit }) flips (bitsFor edition f payload)
-  written-passed limit flips within = record {
+  written-passed : (limit : ℕ) (call : Call) (flips : ℕ) → flips ≤ limit → Agrees call (satelliteOf (f .«src_id»)) → HeaderPassed (record { edition = edition; limit = limit }) call flips (bitsFor edition f payload)
+  written-passed limit call flips within agrees = record {
     within = within;
     same-crc5 = written-crc5 ∙ ap (λ (h : Header). h .«crc5») (sym written-header);
     known-source = rw written-header (in-range edition (valuesOf f) (ok .ranges) 0 (lit< tt));
+    same-sign = rw written-header (omega (arith, agrees-other call (satelliteOf (f .«src_id»)) agrees));
     known-coding = rw written-header (in-range edition (valuesOf f) (ok .ranges) 5 (lit< tt));
   }
 
 -- THE HEADER IS RESTORED, read and written under one edition
-module _ (rules : Rules) (f : Fields) (payload : List ℕ) (ok : Writable (rules .edition) f payload) (allowed : rules .limit ≤ mostFlips) where
+module _ (rules : Rules) (f : Fields) (payload : List ℕ) (ok : Writable (rules .edition) f payload) (allowed : rules .limit ≤ mostFlips)
+    (call : Call) (agrees : Agrees call (satelliteOf (f .«src_id»))) where
   abbrev coded : List ℕ
   coded = codedOf (bitsFor (rules .edition) f payload)
 
   pub header-restored : (air : List ℕ) → length air ≡ airBits → AreBits air → AllClose (wordsOf air) (codedOf (bitsFor (rules .edition) f payload))
       → distances (wordsOf air) (codedOf (bitsFor (rules .edition) f payload)) ≤ rules .limit
-      → ReadAs (signal rules air) (headerFor (rules .edition) f payload) (distances (wordsOf air) (codedOf (bitsFor (rules .edition) f payload)))
+      → ReadAs (signalWith rules call air) (headerFor (rules .edition) f payload) (distances (wordsOf air) (codedOf (bitsFor (rules .edition) f payload)))
   header-restored air long bits close within =
-      (rw (written-bits (rules .edition) f payload ok, written-header (rules .edition) f payload ok) at (restored (signal rules air) coded long bits close allowed))
-      (written-passed (rules .edition) f payload ok (rules .limit) (distances (wordsOf air) coded) within)
+      (rw (written-bits (rules .edition) f payload ok, written-header (rules .edition) f payload ok) at (restored (signalWith rules call air) coded long bits close allowed (agrees-fault call (satelliteOf (f .«src_id»)) agrees)))
+      (written-passed (rules .edition) f payload ok (rules .limit) call (distances (wordsOf air) coded) within agrees)
 
   -- with nothing flipped
-  pub header-read-back : ReadAs (signal rules (airFor (rules .edition) f payload)) (headerFor (rules .edition) f payload) 0
+  pub header-read-back : ReadAs (signalWith rules call (airFor (rules .edition) f payload)) (headerFor (rules .edition) f payload) 0
   header-read-back =
       let sent : List ℕ = airFor (rules .edition) f payload in
       let back : wordsOf sent ≡ coded = written-words (rules .edition) f payload in

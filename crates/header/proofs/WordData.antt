@@ -16,6 +16,7 @@ use Rattle.base.specs.Parts.{joinedFrom, joined, InWidths, none, part}
 use Rattle.base.proofs.Joined.{join-above, join-lt, join-append}
 use Rattle.word.specs.Words.{wordLimit, dataOf}
 use Rattle.air.specs.Air.{wordCount}
+use Rattle.sign.specs.Calls.{Call}
 use Rattle.header.specs.declared.Answer.{Answer}
 use Rattle.header.specs.Fields.{dataWidths, bitsOfWords}
 use Rattle.header.specs.declared.Rules.{Rules}
@@ -124,5 +125,5 @@ module _ (words : List ℕ) (long : length words ≡ wordCount) (ok : AreWords w
       ∙ ap (joined dataWidths) (sym (map-append dataOf (take 6 words) (take 8 (drop 6 words))) ∙ ap (map dataOf) whole))
 
   -- so what is judged of the two numbers is judged of the words
-  pub judged-halves : (rules : Rules) (flips : ℕ) (r : Answer) → r ≡ judgedOf rules flips (headerBits hi lo) → r ≡ judgedOf rules flips (bitsOfWords words)
-  judged-halves rules flips r e = rw halves at e
+  pub judged-halves : (rules : Rules) (call : Call) (flips : ℕ) (r : Answer) → r ≡ judgedOf rules call flips (headerBits hi lo) → r ≡ judgedOf rules call flips (bitsOfWords words)
+  judged-halves rules call flips r e = rw halves at e

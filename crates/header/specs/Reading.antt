@@ -1,4 +1,4 @@
--- A header alone, read: refused with 20, 1 to 3, 21, 4 to 6, or the repaired header and the number of flips.
+-- A header alone, read: refused with 20, 1, 2, 23, 3, 21, 4, 5, 24, 6, or the repaired header and the number of flips.
 -- Assumes nothing.
 use mathlib.Core.Bool.{not}
 use mathlib.Core.List.{List, [], _∷_, _++_}
@@ -11,18 +11,28 @@ use Rattle.crc.specs.Crc5.{crc5Of}
 use Rattle.air.specs.Air.{wordCount, airBits, wordsOf, firstNoBit}
 use Rattle.air.specs.WordRepairs.{firstBeyond, repairedOf, flipsIn}
 use Rattle.air.specs.Flips.{mostFlips}
+use Rattle.sign.specs.CallSigns.{signWidth}
+use Rattle.sign.specs.Calls.{Call, absent, lookedAt, faultAt, otherAt}
 use Rattle.header.specs.declared.Rules.{Rules}
 use Rattle.header.specs.declared.Answer.{Answer}
 use Rattle.header.specs.declared.Answer.the-variants.{Accepted, Refused}
-use Rattle.header.specs.Fields.{lastSourceOf, lastCoding, headerOf, bitsOfWords}
+use Rattle.header.specs.Fields.{lastSourceOf, lastCoding, satelliteOf, headerOf, bitsOfWords}
 
--- what a header is read from: the air bits, and how they are to be read
+-- what a header is read from: the air bits, how they are to be read, and what is looked at of a call sign
 pub record Signal : Type 0 where
   pub rules : Rules
+  pub call : Call
   pub air : List ℕ
 
+abbrev pub signalWith : Rules → Call → List ℕ → Signal
+signalWith rules call air = record { rules = rules; call = call; air = air }
+
+-- with no call sign, and with call sign bits
 abbrev pub signal : Rules → List ℕ → Signal
-signal rules air = record { rules = rules; air = air }
+signal rules air = signalWith rules absent air
+
+abbrev pub signed : Rules → List ℕ → List ℕ → Signal
+signed rules call air = signalWith rules (lookedAt (rules .edition) call) air
 
 -- the words that arrived, and the bits of the repaired header
 abbrev pub arrived : Signal → List ℕ
@@ -31,7 +41,7 @@ arrived s = wordsOf (s .air)
 abbrev pub repairedBits : Signal → ℕ
 repairedBits s = bitsOfWords (repairedOf (arrived s))
 
--- THE PAPER'S TABLE, rows 20 and 1 to 3: the limit and the air bits
+-- THE PAPER'S TABLE, rows 20, 1, 2, 23 and 3: the limit, the air bits and the call sign bits
 -- 20, "limit above 42", which is mostFlips: the limit
 abbrev pub limitAbove42 : Signal → Check Answer
 limitAbove42 s = check (ltb mostFlips (s .rules .limit)) (Refused (refusal 20 (s .rules .limit)))
@@ -44,14 +54,18 @@ not210Long s = check (not (eqb (length (s .air)) airBits)) (Refused (refusal 1 (
 abbrev pub noBit : Signal → Check Answer
 noBit s = check (ltb (firstNoBit (s .air)) airBits) (Refused (refusal 2 (firstNoBit (s .air))))
 
+-- 23, "not 48 elements or one above 1": "the length, or the first bad index"
+abbrev pub noCallSign : Signal → Check Answer
+noCallSign s = check (not (eqb (faultAt (s .call)) signWidth)) (Refused (refusal 23 (faultAt (s .call))))
+
 -- 3, "a word is beyond repair": lowest word
 abbrev pub beyondRepair : Signal → Check Answer
 beyondRepair s = check (ltb (firstBeyond (arrived s)) wordCount) (Refused (refusal 3 (firstBeyond (arrived s))))
 
 abbrev pub airChecks : Signal → List (Check Answer)
-airChecks s = limitAbove42 s ∷ not210Long s ∷ noBit s ∷ beyondRepair s ∷ []
+airChecks s = limitAbove42 s ∷ not210Long s ∷ noBit s ∷ noCallSign s ∷ beyondRepair s ∷ []
 
--- rows 21 and 4 to 6: the repaired header, after so many flips, whose bits are n
+-- rows 21, 4, 5, 24 and 6: the repaired header, after so many flips, whose bits are n
 -- 21, "flips above the limit": the flips
 abbrev pub flipsAboveLimit : Rules → ℕ → Check Answer
 flipsAboveLimit rules flips = check (ltb (rules .limit) flips) (Refused (refusal 21 flips))
@@ -64,20 +78,26 @@ crc5Differs edition n = check (not (eqb (crc5Of edition n) (headerOf n .«crc5»
 abbrev pub unknownSource : Edition → ℕ → Check Answer
 unknownSource edition n = check (ltb (lastSourceOf edition) (headerOf n .«fields» .«src_id»)) (Refused (refusal 5 (headerOf n .«fields» .«src_id»)))
 
+-- 24, "disagreement": SrcId
+abbrev pub otherCallSign : Call → ℕ → Check Answer
+otherCallSign call n =
+    check (ltb (otherAt call (satelliteOf (headerOf n .«fields» .«src_id»))) signWidth) (Refused (refusal 24 (headerOf n .«fields» .«src_id»)))
+
 -- 6, "AiTypeSrc above 3": AiTypeSrc
 abbrev pub unknownCoding : ℕ → Check Answer
 unknownCoding n = check (ltb lastCoding (headerOf n .«fields» .«ai_type_src»)) (Refused (refusal 6 (headerOf n .«fields» .«ai_type_src»)))
 
-abbrev pub headerChecks : Rules → ℕ → ℕ → List (Check Answer)
-headerChecks rules flips n = flipsAboveLimit rules flips ∷ crc5Differs (rules .edition) n ∷ unknownSource (rules .edition) n ∷ unknownCoding n ∷ []
+abbrev pub headerChecks : Rules → Call → ℕ → ℕ → List (Check Answer)
+headerChecks rules call flips n =
+    flipsAboveLimit rules flips ∷ crc5Differs (rules .edition) n ∷ unknownSource (rules .edition) n ∷ otherCallSign call n ∷ unknownCoding n ∷ []
 
 -- what is answered of it
-abbrev pub judgedOf : Rules → ℕ → ℕ → Answer
-judgedOf rules flips n = first (Accepted (headerOf n) flips) (headerChecks rules flips n)
+abbrev pub judgedOf : Rules → Call → ℕ → ℕ → Answer
+judgedOf rules call flips n = first (Accepted (headerOf n) flips) (headerChecks rules call flips n)
 
--- all eight, in the paper's order
+-- all ten, in the paper's order
 abbrev pub signalChecks : Signal → List (Check Answer)
-signalChecks s = airChecks s ++ headerChecks (s .rules) (flipsIn (arrived s)) (repairedBits s)
+signalChecks s = airChecks s ++ headerChecks (s .rules) (s .call) (flipsIn (arrived s)) (repairedBits s)
 
 -- what is answered where no row applies
 abbrev pub repairedAnswer : Signal → Answer

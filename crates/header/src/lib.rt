@@ -1,4 +1,4 @@
-// The header: its fields, the reader of a header alone (refusals 20, 1 to 3, 21, 4 to 6) and the writer (13 to 15).
+// The header: its fields, the reader of a header alone (refusals 20, 1, 2, 23, 3, 21, 4, 5, 24, 6) and the writer (13 to 15).
 mod reading;
 mod writing;
 
@@ -7,6 +7,8 @@ use base::Edition;
 use base::Refusal;
 pub use reading::read_header;
 pub use reading::read_header_in;
+pub use reading::read_header_signed;
+pub use reading::read_header_with;
 pub use writing::write_header;
 ghost use mathlib.Core.Path.{_≡_};
 ghost use Prim.Native.Nat.{_+_};

@@ -6,6 +6,7 @@ use crate::LAST_CODING;
 use crate::Read;
 use crate::Rules;
 use crate::last_source;
+use crate::satellite;
 use crate::with_patterns;
 use air::AIR_BITS;
 use air::MOST_FLIPS;
@@ -15,10 +16,13 @@ use base::CRC5_DIFFERS;
 use base::FLIPS_ABOVE_LIMIT;
 use base::LIMIT_ABOVE_42;
 use base::NO_BIT;
+use base::NO_CALL_SIGN;
 use base::NOT_210_LONG;
+use base::OTHER_CALL_SIGN;
 use base::Refusal;
 use base::UNKNOWN_CODING;
 use base::UNKNOWN_SOURCE;
+use sign::SIGN_BITS;
 use word::DATA_BIT;
 use word::table::TABLE_ROWS;
 ghost use mathlib.Core.Path.{_≡_};
@@ -32,8 +36,10 @@ ghost use Rattle.word.specs.Words.{wordLimit, dataOf};
 ghost use Rattle.word.specs.Repairs.{syndromes};
 ghost use Rattle.air.specs.Air.{wordCount, airBits};
 ghost use Rattle.air.specs.Flips.{mostFlips};
+ghost use Rattle.sign.specs.CallSigns.{signWidth};
+ghost use Rattle.sign.specs.Calls.{callOf, faultAt};
 ghost use Rattle.header.specs.Fields.{headerOf, bitsOfWords};
-ghost use Rattle.header.specs.Reading.{signal, judgedOf};
+ghost use Rattle.header.specs.Reading.{signalWith, signal, signed, judgedOf};
 ghost use Rattle.header.specs.Patterns.{beside, headerRead};
 ghost use Rattle.crc.specs.Halves.{headerBits, hiWidth, loWidth};
 
@@ -90,52 +96,57 @@ fn collect(words: &[u16]) -> u64
     number
 }
 
-// Checks 21 and 4 to 6 on the bits of a repaired header.
-fn judge(rules: Rules, flips: u32, hi: u64, lo: u64) -> Answer
+// A refusal of a repaired header.
+fn not_judged(number: u8, place: usize) -> Answer
+    ensures { λ r. ⌜ r ≡ Answer.Refused (refusal number place) ⌝ }
+{
+    Answer::Refused(Refusal { number, place })
+}
+
+// Checks 21, 4, 5, 24 and 6 on the bits of a repaired header; `looked` says whether `call` is looked at.
+fn judge(rules: Rules, looked: bool, call: &[u8], flips: u32, hi: u64, lo: u64) -> Answer
     requires { ⌜ hi < 2 ^ hiWidth ⌝ }
     requires { ⌜ lo < 2 ^ loWidth ⌝ }
-    ensures { λ r. ⌜ r ≡ judgedOf rules flips (headerBits hi lo) ⌝ }
+    ensures { λ r. ⌜ r ≡ judgedOf rules (callOf looked (now (call .entry))) flips (headerBits hi lo) ⌝ }
 {
     if rules.limit < flips {
-        return Answer::Refused(Refusal {
-            number: FLIPS_ABOVE_LIMIT,
-            place: flips as usize,
-        });
+        return not_judged(FLIPS_ABOVE_LIMIT, flips as usize);
     }
     let header = unpack(hi, lo);
     let edition = rules.edition;
     let crc5 = crc::crc5(edition, hi, lo);
     if crc5 != header.crc5 {
-        return Answer::Refused(Refusal {
-            number: CRC5_DIFFERS,
-            place: crc5 as usize,
-        });
+        return not_judged(CRC5_DIFFERS, crc5 as usize);
     }
     let src_id = header.fields.src_id;
     if last_source(edition) < src_id {
-        return Answer::Refused(Refusal {
-            number: UNKNOWN_SOURCE,
-            place: src_id as usize,
-        });
+        return not_judged(UNKNOWN_SOURCE, src_id as usize);
+    }
+    let sat = satellite(src_id);
+    if sign::other_at(looked, call, sat) < SIGN_BITS {
+        return not_judged(OTHER_CALL_SIGN, src_id as usize);
     }
     let ai_type_src = header.fields.ai_type_src;
     if LAST_CODING < ai_type_src {
-        return Answer::Refused(Refusal {
-            number: UNKNOWN_CODING,
-            place: ai_type_src as usize,
-        });
+        return not_judged(UNKNOWN_CODING, ai_type_src as usize);
     }
     Answer::Accepted { header, flips }
 }
 
 // The same on fourteen repaired words.
-fn judge_words(rules: Rules, flips: u32, words: [u16; WORD_COUNT]) -> Answer
+fn judge_words(
+    rules: Rules,
+    looked: bool,
+    call: &[u8],
+    flips: u32,
+    words: [u16; WORD_COUNT],
+) -> Answer
     requires { ⌜ ((k : ℕ) → getD words k 0 < wordLimit) ⌝ }
-    ensures { λ r. ⌜ r ≡ judgedOf rules flips (bitsOfWords words) ⌝ }
+    ensures { λ r. ⌜ r ≡ judgedOf rules (callOf looked (now (call .entry))) flips (bitsOfWords words) ⌝ }
 {
     let hi = collect(&words[0..HI_WORDS]);
     let lo = collect(&words[HI_WORDS..WORD_COUNT]);
-    judge(rules, flips, hi, lo)
+    judge(rules, looked, call, flips, hi, lo)
 }
 
 // A refusal, with no patterns.
@@ -148,13 +159,14 @@ fn refused(number: u8, place: usize) -> Read
     }
 }
 
-// Checks 3, 21 and 4 to 6 on 210 air bits.
-fn read_bits(table: &[u16; TABLE_ROWS], rules: Rules, air: &[u8]) -> Read
+// Checks 3, 21, 4, 5, 24 and 6 on 210 air bits.
+fn read_bits(table: &[u16; TABLE_ROWS], rules: Rules, looked: bool, call: &[u8], air: &[u8]) -> Read
     requires { ⌜ now table ≡ syndromes ⌝ }
     requires { ⌜ rules .limit ≤ mostFlips ⌝ }
     requires { ⌜ length (now air) ≡ airBits ⌝ }
     requires { ⌜ AreBits (now air) ⌝ }
-    ensures { λ r. ⌜ r ≡ headerRead (signal rules (now (air .entry))) ⌝ }
+    requires { ⌜ faultAt (callOf looked (now call)) ≡ signWidth ⌝ }
+    ensures { λ r. ⌜ r ≡ headerRead (signalWith rules (callOf looked (now (call .entry))) (now (air .entry))) ⌝ }
 {
     let repaired = air::repair_words(table, air::words(air));
     let beyond = repaired.beyond;
@@ -164,13 +176,20 @@ fn read_bits(table: &[u16; TABLE_ROWS], rules: Rules, air: &[u8]) -> Read
     let words = repaired.words;
     let flips = repaired.flips;
     let patterns = repaired.patterns;
-    with_patterns(judge_words(rules, flips, words), patterns)
+    with_patterns(judge_words(rules, looked, call, flips, words), patterns)
 }
 
-// The reader of a header alone, by a lent copy of the syndrome table: what a caller with many headers copies once.
-pub fn read_header_in(table: &[u16; TABLE_ROWS], rules: Rules, air: &[u8]) -> Read
+// The reader of a header alone, by a lent copy of the syndrome table: what a caller with many headers copies once. `looked` says
+// whether call sign bits are looked at, and `call` which.
+pub fn read_header_with(
+    table: &[u16; TABLE_ROWS],
+    rules: Rules,
+    looked: bool,
+    call: &[u8],
+    air: &[u8],
+) -> Read
     requires { ⌜ now table ≡ syndromes ⌝ }
-    ensures { λ r. ⌜ r ≡ headerRead (signal rules (now (air .entry))) ⌝ }
+    ensures { λ r. ⌜ r ≡ headerRead (signalWith rules (callOf looked (now (call .entry))) (now (air .entry))) ⌝ }
 {
     let limit = rules.limit;
     if MOST_FLIPS < limit {
@@ -184,7 +203,19 @@ pub fn read_header_in(table: &[u16; TABLE_ROWS], rules: Rules, air: &[u8]) -> Re
     if at < AIR_BITS {
         return refused(NO_BIT, at);
     }
-    read_bits(table, rules, air)
+    let fault = sign::fault_at(looked, call);
+    if fault != SIGN_BITS {
+        return refused(NO_CALL_SIGN, fault);
+    }
+    read_bits(table, rules, looked, call, air)
+}
+
+// The same with no call sign bits.
+pub fn read_header_in(table: &[u16; TABLE_ROWS], rules: Rules, air: &[u8]) -> Read
+    requires { ⌜ now table ≡ syndromes ⌝ }
+    ensures { λ r. ⌜ r ≡ headerRead (signal rules (now (air .entry))) ⌝ }
+{
+    read_header_with(table, rules, false, b"", air)
 }
 
 // The reader of a header alone, of any bytes: the repaired header, the number of flips and the patterns, or the first
@@ -194,4 +225,13 @@ pub fn read_header(rules: Rules, air: &[u8]) -> Read
 {
     let table = word::table::whole();
     read_header_in(&table, rules, air)
+}
+
+// The same with call sign bits, any bytes: 23 after 2, and 24 after 5. Under the corrected edition they are not looked at.
+pub fn read_header_signed(rules: Rules, call: &[u8], air: &[u8]) -> Read
+    ensures { λ r. ⌜ r ≡ headerRead (signed rules (now (call .entry)) (now (air .entry))) ⌝ }
+{
+    let named = rules.edition;
+    let table = word::table::whole();
+    read_header_with(&table, rules, sign::looks_at(named), call, air)
 }

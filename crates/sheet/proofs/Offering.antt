@@ -19,6 +19,7 @@ use Rattle.base.proofs.Numbers.{placed}
 use Rattle.base.proofs.Tests.{lt-or-ge}
 use Rattle.air.specs.Air.{wordCount}
 use Rattle.air.specs.Flips.{mostFlips}
+use Rattle.sign.specs.Calls.{Call, callOf, looksAt}
 use Rattle.header.specs.declared.Header.{Header}
 use Rattle.header.specs.declared.Read.{Read}
 use Rattle.header.specs.declared.Rules.{Rules}
@@ -26,7 +27,7 @@ use Rattle.header.specs.declared.Answer.{Answer}
 use Rattle.header.specs.declared.Answer.the-variants.{Accepted, Refused}
 use Rattle.header.specs.Patterns.{beside, patternsOf}
 use Rattle.header.proofs.Beside.{beside-answer}
-use Rattle.frame.specs.Frames.{Frame, frame, frameNumbers, frameOf, frameRead}
+use Rattle.frame.specs.Frames.{Frame, signedFrame, frameWith, frameNumbers, frameOf, frameRead}
 use Rattle.frame.proofs.Bounds.{frame-source, frame-number, frame-flips}
 use Rattle.frame.proofs.Rules.{frame-first, frame-read-is, frame-answer}
 use Rattle.sheet.specs.declared.Source.{Source}
@@ -159,30 +160,30 @@ module _ (own : Edition) (sheet : Sheet) (f : Frame) where
   pub offered-answer : offerOf own sheet f .read .answer ≡ offerAnswer own sheet f
   offered-answer = beside-answer (patternsOf (f .head)) (offerAnswer own sheet f)
 
+pub has-room : {S : Type 0} (own : Edition) (held : S → Sheet) (sheet : S) (full : Bool) → full ≡ fullOf own (held sheet) → full ≡ false → heardOf own (held sheet) < fullSheet
+has-room own held sheet full tested left = leb-false fullSheet (heardOf own (held sheet)) (sym tested ∙ left)
+
 -- THE SAME, as either sheet finds it: what it holds, and what is made of an offered frame's answer and sheet
-module _ {S R : Type 0} (own : Edition) (held : S → Sheet) (from : Offered → R) (sheet : S) (rules : Rules) (air payload : List ℕ) where
+module _ {S R : Type 0} (own : Edition) (held : S → Sheet) (from : Offered → R) (sheet : S) (rules : Rules) (call : Call) (air payload : List ℕ) where
   abbrev f : Frame
-  f = frame rules air payload
+  f = frameWith rules call air payload
 
   pub gives-17 : (read : Read) → read ≡ beside (replicate wordCount 0) (Refused (refusal 17 fullSheet)) → (full : Bool) → full ≡ fullOf own (held sheet) → full ≡ true
-      → from (record { read = read; sheet = held sheet }) ≡ from (offerOf own (held sheet) (frame rules air payload))
+      → from (record { read = read; sheet = held sheet }) ≡ from (offerOf own (held sheet) (frameWith rules call air payload))
   gives-17 read is full tested taken =
       ap from (rw is (sym (full-refuses own (held sheet) f (leb-true fullSheet (heardOf own (held sheet)) (sym tested ∙ taken)))))
 
   module _ (full : Bool) (tested : full ≡ fullOf own (held sheet)) (left : full ≡ false) where
-    pub has-room : heardOf own (held sheet) < fullSheet
-    has-room = leb-false fullSheet (heardOf own (held sheet)) (sym tested ∙ left)
-
     pub gives-22 : (same : Bool) → same ≡ sameEdition (rules .edition) own → same ≡ false → (read : Read) → read ≡ beside (replicate wordCount 0) (Refused (refusal 22 0))
-        → from (record { read = read; sheet = held sheet }) ≡ from (offerOf own (held sheet) (frame rules air payload))
-    gives-22 same compared other read is = ap from (rw is (sym (other-refuses own (held sheet) f has-room (sym compared ∙ other))))
+        → from (record { read = read; sheet = held sheet }) ≡ from (offerOf own (held sheet) (frameWith rules call air payload))
+    gives-22 same compared other read is = ap from (rw is (sym (other-refuses own (held sheet) f (has-room own held sheet full tested left) (sym compared ∙ other))))
 
-  module _ (read : Read) (is : read ≡ frameRead (frame rules air payload)) (mine : rules .edition ≡ own) where
+  module _ (read : Read) (is : read ≡ frameRead (frameWith rules call air payload)) (mine : rules .edition ≡ own) where
     pub has-record : (h : Header) (flips : ℕ) → read .answer ≡ Accepted h flips → recordOf h < recordsOf own
     has-record h flips e = omega (arith, rw mine at (frame-source f h flips (sym (frame-answer f read is) ∙ e)))
 
     pub takes : heardOf own (held sheet) < fullSheet → (a : Answer) → read .answer ≡ a → (after : Sheet) → after ≡ countedOf (held sheet) a
-        → from (record { read = read; sheet = after }) ≡ from (offerOf own (held sheet) (frame rules air payload))
+        → from (record { read = read; sheet = after }) ≡ from (offerOf own (held sheet) (frameWith rules call air payload))
     takes room a e after counts =
         let same : a ≡ frameOf f = sym e ∙ frame-answer f read is in
         ap from
@@ -190,7 +191,7 @@ module _ {S R : Type 0} (own : Edition) (held : S → Sheet) (from : Offered →
         ∙ sym (room-takes own (held sheet) f room mine))
 
     pub takes-refusal : heardOf own (held sheet) < fullSheet → (why : Refusal) → read .answer ≡ Refused why → (changed : List ℕ) → changed ≡ countsAfter (held sheet .refusals) (why .number)
-        → from (record { read = read; sheet = record { sources = held sheet .sources; refusals = changed } }) ≡ from (offerOf own (held sheet) (frame rules air payload))
+        → from (record { read = read; sheet = record { sources = held sheet .sources; refusals = changed } }) ≡ from (offerOf own (held sheet) (frameWith rules call air payload))
     takes-refusal room why e changed is = takes room (Refused why) e (record { sources = held sheet .sources; refusals = changed }) (rw is)
 
 -- of the flown sheet, that is the sheet and the answer themselves
@@ -203,3 +204,8 @@ asGiven offered = offered
 -- the edition that was found to be the sheet's
 pub mine : (own edition : Edition) (same : Bool) → same ≡ sameEdition edition own → same ≡ true → edition ≡ own
 mine own edition same compared taken = same-is edition own (sym compared ∙ taken)
+
+-- call sign bits, looked at where the edition says so
+pub as-looked-at : (own : Edition) (sheet : Sheet) (rules : Rules) (looked : Bool) (call air payload : List ℕ) (r : Offered) → looked ≡ looksAt (rules .edition)
+    → r ≡ offerOf own sheet (frameWith rules (callOf looked call) air payload) → r ≡ offerOf own sheet (signedFrame rules call air payload)
+as-looked-at own sheet rules looked call air payload r is e = rw is at e

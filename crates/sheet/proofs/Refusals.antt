@@ -1,18 +1,24 @@
 -- What any sheet answers: each refusal exactly when its row applies, and a refused call leaves every frame record as it was.
 -- Assumes nothing.
-use mathlib.Core.Path.{_≡_, sym, ap, _∙_}
+use mathlib.Core.Path.{_≡_, refl, sym, ap, _∙_}
 use Rattle.base.specs.declared.Refusal.{Refusal}
 use Rattle.base.specs.declared.Edition.{Edition}
 use Rattle.base.specs.Checks.{Exactly}
 use Rattle.base.proofs.Exactly.{exactly}
+use Rattle.base.proofs.Numbers.{numbers}
 use Rattle.header.specs.declared.Answer.{Answer}
 use Rattle.header.specs.declared.Answer.the-variants.{Refused}
 use Rattle.header.specs.Reading.{repairedAnswer}
 use Rattle.header.proofs.GoesOn.{not-refused}
-use Rattle.frame.specs.Frames.{Frame}
+use Rattle.frame.specs.Frames.{Frame, wholeOrder}
+use Rattle.frame.proofs.Bounds.{numberIn}
 use Rattle.sheet.specs.declared.Sheet.{Sheet}
 use Rattle.sheet.specs.Sheets.{countedOf, offerChecks, offerAnswer, offerOf}
 use Rattle.sheet.proofs.Offering.{offered-answer}
+
+-- the whole order: 17, 22, and then the frame's
+pub offer-numbered : (own : Edition) (sheet : Sheet) (f : Frame) → numbers numberIn (offerChecks own sheet f) ≡ wholeOrder
+offer-numbered own sheet f = refl
 
 module _ (own : Edition) (sheet : Sheet) (f : Frame) where
   -- "Given exactly when", 17 and 22 among them

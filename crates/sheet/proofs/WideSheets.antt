@@ -5,6 +5,7 @@ use mathlib.Core.List.{List}
 use Prim.Native.Nat.{ℕ, _<_}
 use lib.ListN.{set, replicate}
 use Rattle.base.specs.declared.Edition.the-variants.{Corrected}
+use Rattle.sign.specs.Calls.{absent}
 use Rattle.header.specs.declared.Header.{Header}
 use Rattle.header.specs.declared.Read.{Read}
 use Rattle.header.specs.declared.Rules.{Rules}
@@ -31,4 +32,4 @@ module _ (sheet : WideSheet) (rules : Rules) (air payload : List ℕ) (read : Re
       → _≡_ {A = WideOffered} (record { read = read; sheet = after }) (wideOffered (offerOf Corrected (held sheet) (frame rules air payload)))
   takes-wide room h flips e after counts =
       ap (λ (w : WideSheet). record { read = read; sheet = w }) counts
-      ∙ takes Corrected held wideOffered sheet rules air payload read is own room (Accepted h flips) e (acceptOf (held sheet) h flips) refl
+      ∙ takes Corrected held wideOffered sheet rules absent air payload read is own room (Accepted h flips) e (acceptOf (held sheet) h flips) refl

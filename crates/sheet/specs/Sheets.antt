@@ -29,9 +29,9 @@ use Rattle.sheet.specs.Lanes.{Role, laneOf, silent, sourceIn, heardIn, a
 abbrev pub recordsOf : Edition → ℕ
 recordsOf own = suc (lastSourceOf own)
 
--- "and a count for each of the refusals 1 to 8", 20 and 21: "The sheet counts both"
+-- "and a count for each of the refusals 1 to 8"; 20 and 21, "The sheet counts both"; 23 and 24, "Both are counted by the sheet"
 abbrev pub counted : List ℕ
-counted = 1 ∷ 2 ∷ 3 ∷ 4 ∷ 5 ∷ 6 ∷ 7 ∷ 8 ∷ 20 ∷ 21 ∷ []
+counted = 1 ∷ 2 ∷ 3 ∷ 4 ∷ 5 ∷ 6 ∷ 7 ∷ 8 ∷ 20 ∷ 21 ∷ 23 ∷ 24 ∷ []
 
 abbrev pub refusalCounts : ℕ
 refusalCounts = length counted
@@ -58,7 +58,7 @@ refusalsAt sheet k = getD (sheet .refusals) k 0
 unfoldable pub acceptOf : Sheet → Header → ℕ → Sheet
 acceptOf sheet h flips = record { sources = heardIn (sheet .sources) h flips; refusals = sheet .refusals }
 
--- "A frame refused with 1 to 8", 20 or 21 "adds one to that refusal's count and touches no frame record." Any other number changes nothing.
+-- "A frame refused with 1 to 8", 20, 21, 23 or 24 "adds one to that refusal's count and touches no frame record." Any other number changes nothing.
 unfoldable pub countsAfter : List ℕ → ℕ → List ℕ
 countsAfter counts number = cond (ltb (slotOf number) refusalCounts) (set counts (slotOf number) (addOf (getD counts (slotOf number) 0) 1)) counts
 

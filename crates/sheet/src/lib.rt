@@ -10,7 +10,9 @@ use base::Edition;
 use base::FLIPS_ABOVE_LIMIT;
 use base::LIMIT_ABOVE_42;
 use base::NO_BIT;
+use base::NO_CALL_SIGN;
 use base::NOT_210_LONG;
+use base::OTHER_CALL_SIGN;
 use base::OTHER_EDITION;
 use base::OTHER_LENGTH;
 use base::Refusal;
@@ -41,14 +43,15 @@ ghost use Rattle.word.specs.Repairs.{syndromes};
 ghost use Rattle.sheet.specs.Records.{countLimit, addOf, missedOf, tallyOf, nextOf};
 ghost use Rattle.sheet.specs.Lanes.{lanes, silent, hearOf, framesOf, repairedOf, summedOf, recordOf};
 ghost use Rattle.header.specs.Patterns.{beside};
-ghost use Rattle.frame.specs.Frames.{frame};
+ghost use Rattle.sign.specs.Calls.{callOf};
+ghost use Rattle.frame.specs.Frames.{frame, signedFrame, frameWith};
 ghost use Rattle.sheet.specs.Sheets.{recordsOf, refusalCounts, slotOf, newSheet, acceptOf, countsAfter, sameEdition, acceptedOf, refusedOf, heardOf, fullSheet, fullOf, offerOf, displayOf};
 
 // The records of a sheet of the flown edition: one for each SrcId that is not refused.
 pub const RECORDS: usize = header::LAST_FLOWN_SOURCE as usize + 1;
 
 // The refusals that are counted, in the order of their counts.
-pub const REFUSAL_COUNTS: usize = 10;
+pub const REFUSAL_COUNTS: usize = 12;
 
 const COUNTED: [u8; REFUSAL_COUNTS] = [
     NOT_210_LONG,
@@ -61,6 +64,8 @@ const COUNTED: [u8; REFUSAL_COUNTS] = [
     CRC13_DIFFERS,
     LIMIT_ABOVE_42,
     FLIPS_ABOVE_LIMIT,
+    NO_CALL_SIGN,
+    OTHER_CALL_SIGN,
 ];
 
 // Frame counters run from 0 to 15.
@@ -367,20 +372,22 @@ fn not_taken(number: u8, place: usize) -> Read
 }
 
 // A frame of the sheet's edition offered to a sheet that is not full, by a lent copy of the syndrome table: the frame's own answer,
-// counted.
+// counted. `looked` says whether call sign bits are looked at, and `call` which.
 fn take_in(
     table: &[u16; TABLE_ROWS],
     sheet: Sheet,
     rules: Rules,
+    looked: bool,
+    call: &[u8],
     air: &[u8],
     payload: &[u8],
 ) -> Offered
     requires { ⌜ now table ≡ syndromes ⌝ }
     requires { ⌜ heardOf Edition.Flown sheet < fullSheet ⌝ }
     requires { ⌜ rules .edition ≡ Edition.Flown ⌝ }
-    ensures { λ r. ⌜ r ≡ offerOf Edition.Flown sheet (frame rules (now (air .entry)) (now (payload .entry))) ⌝ }
+    ensures { λ r. ⌜ r ≡ offerOf Edition.Flown sheet (frameWith rules (callOf looked (now (call .entry))) (now (air .entry)) (now (payload .entry))) ⌝ }
 {
-    let read = frame::read_frame_in(table, rules, air, payload);
+    let read = frame::read_frame_with(table, rules, looked, call, air, payload);
     let answer = read.answer;
     match answer {
         Answer::Accepted { header, flips } => {
@@ -397,10 +404,16 @@ fn take_in(
     }
 }
 
-// A frame offered to any sheet. A full sheet refuses it with 17, and a frame of the other edition is refused with 22; the sheet stays as
-// it is then. Else the frame has its own answer, and the sheet has counted it.
-pub fn offer(sheet: Sheet, rules: Rules, air: &[u8], payload: &[u8]) -> Offered
-    ensures { λ r. ⌜ r ≡ offerOf Edition.Flown sheet (frame rules (now (air .entry)) (now (payload .entry))) ⌝ }
+// A frame offered to any sheet, with call sign bits that are looked at or not.
+fn offer_with(
+    sheet: Sheet,
+    rules: Rules,
+    looked: bool,
+    call: &[u8],
+    air: &[u8],
+    payload: &[u8],
+) -> Offered
+    ensures { λ r. ⌜ r ≡ offerOf Edition.Flown sheet (frameWith rules (callOf looked (now (call .entry))) (now (air .entry)) (now (payload .entry))) ⌝ }
 {
     if full(sheet) {
         let read = not_taken(SHEET_FULL, FULL as usize);
@@ -409,8 +422,25 @@ pub fn offer(sheet: Sheet, rules: Rules, air: &[u8], payload: &[u8]) -> Offered
     let edition = rules.edition;
     if same(edition, Edition::Flown) {
         let table = word::table::whole();
-        return take_in(&table, sheet, rules, air, payload);
+        return take_in(&table, sheet, rules, looked, call, air, payload);
     }
     let read = not_taken(OTHER_EDITION, 0);
     Offered { read, sheet }
+}
+
+// A frame offered to any sheet. A full sheet refuses it with 17, and a frame of the other edition is refused with 22; the sheet stays as
+// it is then. Else the frame has its own answer, and the sheet has counted it.
+pub fn offer(sheet: Sheet, rules: Rules, air: &[u8], payload: &[u8]) -> Offered
+    ensures { λ r. ⌜ r ≡ offerOf Edition.Flown sheet (frame rules (now (air .entry)) (now (payload .entry))) ⌝ }
+{
+    offer_with(sheet, rules, false, b"", air, payload)
+}
+
+// The same with call sign bits, any bytes: 23 after 2, and 24 after 5. A frame of the corrected edition is refused with 22, and its call
+// sign is not looked at.
+pub fn offer_signed(sheet: Sheet, rules: Rules, call: &[u8], air: &[u8], payload: &[u8]) -> Offered
+    ensures { λ r. ⌜ r ≡ offerOf Edition.Flown sheet (signedFrame rules (now (call .entry)) (now (air .entry)) (now (payload .entry))) ⌝ }
+{
+    let named = rules.edition;
+    offer_with(sheet, rules, sign::looks_at(named), call, air, payload)
 }

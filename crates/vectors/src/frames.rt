@@ -13,6 +13,7 @@ use header::Fields;
 use header::Header;
 use header::Read;
 use header::Rules;
+use sign::SIGN_BITS;
 
 // What the output of the header writer holds beforehand.
 const HELD: u8 = 7;
@@ -87,6 +88,39 @@ pub fn frame_reply(record: &Record, reply: &mut Reply) {
     let payload = numbers::payload_at(record, layout::FRAMES_RULE, &mut space);
     let air = numbers::sized(record, layout::RULES, layout::HEADER_ROOM);
     put_read(reply, frame::read_frame(rules_of(record), air, payload));
+}
+
+// Whether the record has call sign bits, and which.
+pub fn is_signed(record: &Record) -> bool {
+    record[layout::RULES] != 0
+}
+
+pub fn call_of(record: &Record) -> &[u8] {
+    numbers::sized(record, layout::RULES + 1, layout::CALL_ROOM)
+}
+
+// A frame with call sign bits, or without them.
+pub fn sign_reply(record: &Record, reply: &mut Reply) {
+    let mut space = [0u8; layout::PAYLOAD_ROOM];
+    let payload = numbers::payload_at(record, layout::SIGNS_RULE, &mut space);
+    let air = numbers::part(record, layout::SIGNED, layout::SIGNS_RULE);
+    let rules = rules_of(record);
+    if is_signed(record) {
+        let read = frame::read_frame_signed(rules, call_of(record), air, payload);
+        put_read(reply, read);
+        return;
+    }
+    put_read(reply, frame::read_frame(rules, air, payload));
+}
+
+// The bits of a satellite's call sign.
+pub fn call_reply(record: &Record, reply: &mut Reply) {
+    let bits = sign::call_sign(record[0]);
+    let mut n = 0;
+    while n < SIGN_BITS {
+        reply[n] = bits[n];
+        n += 1;
+    }
 }
 
 fn fields_of(record: &Record) -> Fields {

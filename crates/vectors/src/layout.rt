@@ -29,6 +29,10 @@ pub const SOURCES: u8 = 11;
 
 pub const WIDES: u8 = 12;
 
+pub const SIGNS: u8 = 13;
+
+pub const CALLS: u8 = 14;
+
 // Room for every record and for every reply. The longest are one of `crc13` and one of `sheets`.
 pub const RECORD_BYTES: usize = LENGTH + PAYLOAD_ROOM;
 
@@ -44,8 +48,13 @@ pub const LENGTH: usize = 2;
 // An edition is a byte: 0 is flown, all else corrected.
 pub const EDITION: usize = 1;
 
-// How a frame is read, at the start of `headers`, `frames`, `sheets` and `wides`: edition and limit.
+// How a frame is read, at the start of `headers`, `frames`, `sheets`, `wides` and `signs`: edition and limit.
 pub const RULES: usize = EDITION + 4;
+
+// Behind the rules of `sheets` and `signs`: whether call sign bits are given, and at most so many of them behind their number.
+pub const CALL_ROOM: usize = 64;
+
+pub const SIGNED: usize = RULES + 1 + LENGTH + CALL_ROOM;
 
 // The most bytes of a header slice, of a payload of `crc13` or of a payload rule, and of a payload of `pages`.
 pub const HEADER_ROOM: usize = 256;
@@ -59,7 +68,7 @@ pub const AIR_ROOM: usize = 256;
 
 pub const USER_ROOM: usize = 64;
 
-// A payload rule has so many bytes, and stands here in `writes`, `frames` and `sheets`.
+// A payload rule has so many bytes, and stands here in `writes`, `frames`, `sheets` and `signs`.
 const RULE: usize = 4;
 
 pub const WRITES_RULE: usize = WRITES_ROOM + 2;
@@ -67,6 +76,8 @@ pub const WRITES_RULE: usize = WRITES_ROOM + 2;
 pub const FRAMES_RULE: usize = RULES + LENGTH + HEADER_ROOM;
 
 pub const SHEETS_RULE: usize = SHEETS_HEADER + 210;
+
+pub const SIGNS_RULE: usize = SIGNED + 210;
 
 // The room of an output, after an edition and 14 fields in `writes` and after 17 rows in `rows`.
 pub const WRITES_ROOM: usize = EDITION + 14;
@@ -84,7 +95,7 @@ pub const SPREAD: usize = 24;
 
 pub const RAW: usize = 26;
 
-// A sheet: eight sources of two lanes, then ten counts of refusals. In a record of `sheets` the header follows it, in one of `sources`
+// A sheet: eight sources of two lanes, then twelve counts of refusals. In a record of `sheets` the header follows it, in one of `sources`
 // the number of a source.
 pub const LANE: usize = 4 * 4 + 1 + 1;
 
@@ -94,11 +105,11 @@ pub const REFUSALS: usize = 8 * SOURCE;
 
 pub const COUNT: usize = 4;
 
-const COUNTS: usize = 10 * COUNT;
+const COUNTS: usize = 12 * COUNT;
 
 const SHEET: usize = REFUSALS + COUNTS;
 
-pub const SHEETS_HEADER: usize = RULES + SHEET;
+pub const SHEETS_HEADER: usize = SIGNED + SHEET;
 
 pub const SOURCES_NUMBER: usize = SHEET;
 
@@ -160,6 +171,8 @@ pub fn sizes_of(kind: u8) -> Sizes
         SHEETS => Sizes(SHEETS_RULE + RULE, SHEET_AFTER + SHEET),
         SOURCES => Sizes(SOURCES_NUMBER + 1, 2 * LANE + 8 + 8),
         WIDES => Sizes(WIDES_RULE + RULE, WIDE_HEARD + 8),
+        SIGNS => Sizes(SIGNS_RULE + RULE, SHEET_AFTER),
+        CALLS => Sizes(1, 48),
         _ => Sizes(0, 0),
     }
 }

@@ -31,6 +31,8 @@ fn put_reply(kind: u8, record: &Record, reply: &mut Reply) {
         layout::SHEETS => sheets::sheet_reply(record, reply),
         layout::SOURCES => sheets::source_reply(record, reply),
         layout::WIDES => wides::wide_reply(record, reply),
+        layout::SIGNS => frames::sign_reply(record, reply),
+        layout::CALLS => frames::call_reply(record, reply),
         _ => {}
     }
 }

@@ -5,10 +5,13 @@ use crate::layout::Record;
 use crate::layout::Reply;
 use crate::numbers;
 use sheet::Lane;
+use sheet::Offered;
+use sheet::REFUSAL_COUNTS;
 use sheet::Sheet;
 use sheet::Source;
 ghost use mathlib.Core.Path.{_≡_};
 ghost use Prim.Native.Nat.{_+_, _<_, _≤_};
+ghost use Rattle.sheet.specs.Sheets.{refusalCounts};
 
 pub fn lane_at(record: &Record, at: usize) -> Lane
     requires { do ⌜ at + (← ⟦layout::LANE⟧) ≤ (← ⟦layout::RECORD_BYTES⟧) ⌝ }
@@ -25,7 +28,7 @@ pub fn lane_at(record: &Record, at: usize) -> Lane
 
 // The caller's lane, then the responder's.
 fn source_at(record: &Record, sheet: usize, k: usize) -> Source
-    requires { do ⌜ sheet ≤ (← ⟦layout::RULES⟧) ⌝ }
+    requires { do ⌜ sheet ≤ (← ⟦layout::SIGNED⟧) ⌝ }
     requires { ⌜ k < 8 ⌝ }
 {
     let at = sheet + k * layout::SOURCE;
@@ -35,49 +38,42 @@ fn source_at(record: &Record, sheet: usize, k: usize) -> Source
     }
 }
 
-// The sheet that starts at a place, which is 0 or behind the rules: its sources, and its counts.
+// The sheet that starts at a place, which is 0 or behind rules and call sign: its sources, and its counts.
 fn sources_of(record: &Record, sheet: usize) -> [Source; 8]
-    requires { do ⌜ sheet ≤ (← ⟦layout::RULES⟧) ⌝ }
+    requires { do ⌜ sheet ≤ (← ⟦layout::SIGNED⟧) ⌝ }
 {
-    [
-        source_at(record, sheet, 0),
-        source_at(record, sheet, 1),
-        source_at(record, sheet, 2),
-        source_at(record, sheet, 3),
-        source_at(record, sheet, 4),
-        source_at(record, sheet, 5),
-        source_at(record, sheet, 6),
-        source_at(record, sheet, 7),
-    ]
+    let mut sources = [source_at(record, sheet, 0); 8];
+    let mut k = 1;
+    while k < 8 {
+        let source = source_at(record, sheet, k);
+        sources[k] = source;
+        k += 1;
+    }
+    sources
 }
 
 // The count k of those that start at a place.
 fn count_at(record: &Record, counts: usize, k: usize) -> u32
     requires { do ⌜ counts ≤ (← ⟦layout::SHEETS_HEADER⟧) ⌝ }
-    requires { ⌜ k < 10 ⌝ }
+    requires { ⌜ k < refusalCounts ⌝ }
 {
     numbers::four_at(record, counts + k * layout::COUNT) as u32
 }
 
-pub fn counts_of(record: &Record, counts: usize) -> [u32; 10]
+pub fn counts_of(record: &Record, counts: usize) -> [u32; REFUSAL_COUNTS]
     requires { do ⌜ counts ≤ (← ⟦layout::SHEETS_HEADER⟧) ⌝ }
 {
-    [
-        count_at(record, counts, 0),
-        count_at(record, counts, 1),
-        count_at(record, counts, 2),
-        count_at(record, counts, 3),
-        count_at(record, counts, 4),
-        count_at(record, counts, 5),
-        count_at(record, counts, 6),
-        count_at(record, counts, 7),
-        count_at(record, counts, 8),
-        count_at(record, counts, 9),
-    ]
+    let mut read = [0u32; REFUSAL_COUNTS];
+    let mut k = 0;
+    while k < REFUSAL_COUNTS {
+        read[k] = count_at(record, counts, k);
+        k += 1;
+    }
+    read
 }
 
 fn sheet_of(record: &Record, sheet: usize) -> Sheet
-    requires { do ⌜ sheet ≤ (← ⟦layout::RULES⟧) ⌝ }
+    requires { do ⌜ sheet ≤ (← ⟦layout::SIGNED⟧) ⌝ }
 {
     let sources = sources_of(record, sheet);
     let refusals = counts_of(record, sheet + layout::REFUSALS);
@@ -112,50 +108,48 @@ fn put_source(reply: &mut Reply, k: usize, source: Source)
 // Puts the count k of those that start at a place.
 fn put_count(reply: &mut Reply, counts: usize, k: usize, count: u32)
     requires { do ⌜ counts ≤ (← ⟦layout::COUNTS_AFTER⟧) ⌝ }
-    requires { ⌜ k < 10 ⌝ }
+    requires { ⌜ k < refusalCounts ⌝ }
 {
     numbers::put_four(reply, counts + k * layout::COUNT, count);
 }
 
-pub fn put_counts(reply: &mut Reply, at: usize, counts: [u32; 10])
+pub fn put_counts(reply: &mut Reply, at: usize, counts: [u32; REFUSAL_COUNTS])
     requires { do ⌜ at ≤ (← ⟦layout::COUNTS_AFTER⟧) ⌝ }
 {
-    put_count(reply, at, 0, counts[0]);
-    put_count(reply, at, 1, counts[1]);
-    put_count(reply, at, 2, counts[2]);
-    put_count(reply, at, 3, counts[3]);
-    put_count(reply, at, 4, counts[4]);
-    put_count(reply, at, 5, counts[5]);
-    put_count(reply, at, 6, counts[6]);
-    put_count(reply, at, 7, counts[7]);
-    put_count(reply, at, 8, counts[8]);
-    put_count(reply, at, 9, counts[9]);
+    let mut k = 0;
+    while k < REFUSAL_COUNTS {
+        put_count(reply, at, k, counts[k]);
+        k += 1;
+    }
 }
 
 fn put_sheet(reply: &mut Reply, sheet: Sheet) {
     let sources = sheet.sources;
-    put_source(reply, 0, sources[0]);
-    put_source(reply, 1, sources[1]);
-    put_source(reply, 2, sources[2]);
-    put_source(reply, 3, sources[3]);
-    put_source(reply, 4, sources[4]);
-    put_source(reply, 5, sources[5]);
-    put_source(reply, 6, sources[6]);
-    put_source(reply, 7, sources[7]);
+    let mut k = 0;
+    while k < 8 {
+        let source = sources[k];
+        put_source(reply, k, source);
+        k += 1;
+    }
     let refusals = sheet.refusals;
     put_counts(reply, layout::COUNTS_AFTER, refusals);
+}
+
+// The frame offered, with call sign bits or without them.
+fn offered_to(record: &Record, header: &[u8], payload: &[u8]) -> Offered {
+    let sheet = sheet_of(record, layout::SIGNED);
+    let rules = frames::rules_of(record);
+    if frames::is_signed(record) {
+        return sheet::offer_signed(sheet, rules, frames::call_of(record), header, payload);
+    }
+    sheet::offer(sheet, rules, header, payload)
 }
 
 pub fn sheet_reply(record: &Record, reply: &mut Reply) {
     let mut space = [0u8; layout::PAYLOAD_ROOM];
     let payload = numbers::payload_at(record, layout::SHEETS_RULE, &mut space);
     let header = numbers::part(record, layout::SHEETS_HEADER, layout::SHEETS_RULE);
-    let offered = sheet::offer(
-        sheet_of(record, layout::RULES),
-        frames::rules_of(record),
-        header,
-        payload,
-    );
+    let offered = offered_to(record, header, payload);
     let read = offered.read;
     let after = offered.sheet;
     frames::put_read(reply, read);

@@ -13,6 +13,9 @@ use crate::sheet::Sheet;
 /// Room for a header slice in a record.
 pub(super) const HEADER_ROOM: usize = 256;
 
+/// Room for call sign bits in a record.
+pub(super) const CALL_ROOM: usize = 64;
+
 /// The longest payload of a payload rule.
 pub(super) const PAYLOAD_ROOM: usize = 2_047;
 
@@ -98,15 +101,34 @@ pub(super) fn sized(bytes: &[u8], room: usize) -> Vec<u8> {
     record
 }
 
-/// How a frame is read, its header slice and the payload that comes with it.
+/// How a frame is read, its call sign bits where they are given, its header slice and the payload that comes with it.
 #[derive(Clone)]
 pub(super) struct Frame {
     pub rules: Rules,
+    pub call: Option<Vec<u8>>,
     pub slice: Vec<u8>,
     pub rule: PayloadRule,
 }
 
 impl Frame {
+    /// A frame without call sign bits.
+    pub fn new(rules: Rules, slice: impl Into<Vec<u8>>, rule: PayloadRule) -> Frame {
+        Frame {
+            rules,
+            call: None,
+            slice: slice.into(),
+            rule,
+        }
+    }
+
+    /// The same frame with these call sign bits.
+    pub fn called(self, call: Vec<u8>) -> Frame {
+        Frame {
+            call: Some(call),
+            ..self
+        }
+    }
+
     /// The input of a kind with this frame, which a new sheet is offered in `sheets` and `wides`; records of these kinds have
     /// 210 header bytes.
     pub fn input(&self, kind: Kind) -> Option<Vec<u8>> {
@@ -115,10 +137,12 @@ impl Frame {
             Kind::Frames => Some(self.frame_input()),
             Kind::Sheets => self.sheet_input(&Sheet::new(Edition::Flown)),
             Kind::Wides => self.wide_input(&Wide::new()),
+            Kind::Signs => self.sign_input(),
             _ => None,
         }
     }
 
+    /// One input of `headers`, which has no call sign bits; nor has one of `frames` or of `wides`.
     pub fn header_input(&self) -> Vec<u8> {
         let mut record = Vec::new();
         put_rules(self.rules, &mut record);
@@ -137,7 +161,19 @@ impl Frame {
         let air = <&[u8; AIR_BITS]>::try_from(self.slice.as_slice()).ok()?;
         let mut record = Vec::new();
         put_rules(self.rules, &mut record);
+        put_call(self.call.as_deref(), &mut record);
         put_sheet(sheet, &mut record);
+        record.extend(air);
+        record.extend(self.rule.bytes());
+        Some(record)
+    }
+
+    /// The frame and its call sign bits; none where its slice is not 210 long.
+    pub fn sign_input(&self) -> Option<Vec<u8>> {
+        let air = <&[u8; AIR_BITS]>::try_from(self.slice.as_slice()).ok()?;
+        let mut record = Vec::new();
+        put_rules(self.rules, &mut record);
+        put_call(self.call.as_deref(), &mut record);
         record.extend(air);
         record.extend(self.rule.bytes());
         Some(record)
@@ -153,6 +189,19 @@ impl Frame {
         record.extend(self.rule.bytes());
         Some(record)
     }
+}
+
+/// Puts whether call sign bits are given, and these.
+fn put_call(call: Option<&[u8]>, out: &mut Vec<u8>) {
+    put(out, 1, call.is_some());
+    out.extend(sized(call.unwrap_or_default(), CALL_ROOM));
+}
+
+/// The call sign bits where they are given.
+pub(super) fn take_call<'a>(input: &mut Bytes<'a>) -> Option<&'a [u8]> {
+    let given = input.u8() != 0;
+    let call = input.sized(CALL_ROOM);
+    given.then_some(call)
 }
 
 /// A header in range with the payload's length and checksum, and a right CRC5.
@@ -182,8 +231,7 @@ pub(super) fn damaged(rng: &mut Rng, rules: Rules, patterns: &[u16; WORDS]) -> F
     for (word, &pattern) in patterns.iter().enumerate() {
         flip_pattern(&mut air, word, pattern);
     }
-    let slice = air.to_vec();
-    Frame { rules, slice, rule }
+    Frame::new(rules, air, rule)
 }
 
 /// A frame that is refused with this number of 1 to 8, unless the limit refuses it before or the edition does not make check 5. Every word is damaged, and
@@ -218,5 +266,5 @@ pub(super) fn refused(rng: &mut Rng, rules: Rules, number: u8) -> Frame {
         2 => slice[rng.below(AIR_BITS as u32) as usize] |= 2,
         _ => {}
     }
-    Frame { rules, slice, rule }
+    Frame::new(rules, slice, rule)
 }

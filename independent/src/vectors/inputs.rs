@@ -4,7 +4,7 @@ use super::frame::{
     fresh_header, light_damage, put_edition, sized, widest, Frame, PayloadRule, BEYOND,
     PAYLOAD_ROOM,
 };
-use super::{sheets, shown, stored, telling, Kind};
+use super::{sheets, shown, signs, stored, telling, Kind};
 use crate::air::{AIR_BITS, WORDS};
 use crate::header::{largest, Field, Header, GIVEN, HEADER_BITS, LONGEST_PAYLOAD, WIDTHS};
 use crate::page::ROWS;
@@ -45,6 +45,8 @@ pub(super) fn mixture(kind: Kind, seed: u64) -> Vec<Vec<u8>> {
         Kind::Sheets => sheets::inputs(rng),
         Kind::Sources => sheets::source_inputs(rng),
         Kind::Wides => sheets::wide_inputs(rng),
+        Kind::Signs => signs::inputs(rng),
+        Kind::Calls => (0..=u8::MAX).map(|satellite| vec![satellite]).collect(),
         Kind::Stored => stored::inputs(seed),
     }
 }
@@ -194,8 +196,7 @@ fn header_slices(rng: &mut Rng) -> Vec<Vec<u8>> {
 
 /// A flown frame under the rules that refuse none for its flips.
 fn flown(slice: Vec<u8>, rule: PayloadRule) -> Frame {
-    let rules = widest(FLOWN);
-    Frame { rules, slice, rule }
+    Frame::new(widest(FLOWN), slice, rule)
 }
 
 /// The header slices, and some under limits by chance, with a payload that belongs to few of them.

@@ -6,6 +6,7 @@ use super::bytes::Bytes;
 use super::replies::{AIR_ROOM, FIELD_BYTES, NAN_BITS, USER_ROOM};
 use super::Kind;
 use crate::air::WORDS;
+use crate::call_sign::CALL_SIGN_BITS;
 use crate::page::ROWS;
 use crate::rules::Edition;
 use crate::sheet::COUNTS;
@@ -18,7 +19,7 @@ pub(super) fn line(kind: Kind, reply: &[u8]) -> String {
         Kind::Encode => format!("{} {}", reply.u8(), reply.u16()),
         Kind::Crc13 => format!("{} {}", reply.u16(), reply.u16()),
         Kind::Crc5 => reply.u8().to_string(),
-        Kind::Headers | Kind::Frames => heard_line(&mut reply),
+        Kind::Headers | Kind::Frames | Kind::Signs => heard_line(&mut reply),
         Kind::Writes => written_line(&mut reply, AIR_ROOM, |byte| byte.to_string()),
         Kind::Pages => answer_line(&mut reply, page_line),
         Kind::Rows => written_line(&mut reply, USER_ROOM, |byte| format!("{byte:02x}")),
@@ -29,6 +30,7 @@ pub(super) fn line(kind: Kind, reply: &[u8]) -> String {
         Kind::Sheets => sheet_line(&mut reply),
         Kind::Sources => source_line(&mut reply),
         Kind::Wides => wide_line(&mut reply),
+        Kind::Calls => digits_of(reply.take(CALL_SIGN_BITS), |bit| bit.to_string()),
         Kind::Stored => unreachable!("a stored record has the kind of what it holds"),
     }
 }
@@ -84,10 +86,14 @@ fn heard_line(reply: &mut Bytes) -> String {
 /// A writer's answer and all bytes of its output, each as `digits` tells.
 fn written_line(reply: &mut Bytes, most: usize, digits: fn(u8) -> String) -> String {
     let mut line = answer_line(reply, |_| String::from("written"));
-    let output = reply.sized(most);
-    let bytes: String = output.iter().map(|&byte| digits(byte)).collect();
+    let bytes = digits_of(reply.sized(most), digits);
     add(&mut line, if bytes.is_empty() { "-" } else { &bytes });
     line
+}
+
+/// All bytes, each as `digits` tells.
+fn digits_of(bytes: &[u8], digits: fn(u8) -> String) -> String {
+    bytes.iter().map(|&byte| digits(byte)).collect()
 }
 
 fn page_line(reply: &mut Bytes) -> String {

@@ -1,8 +1,8 @@
 //! Vectors: inputs that a program in another language answers too, so that the two can be compared.
 //!
 //! Each kind has a stream of inputs, a reply to each input and a line for each reply. README.md tells
-//! their format; `inputs.rs`, `sheets.rs`, `shown.rs` and `telling` say which inputs there are. A seed (1 where none
-//! is named) drives those that are left to chance.
+//! their format; `inputs.rs`, `sheets.rs`, `shown.rs`, `signs.rs` and `telling` say which inputs there are. A seed (1
+//! where none is named) drives those that are left to chance.
 
 mod bytes;
 mod compare;
@@ -12,6 +12,7 @@ mod lines;
 mod replies;
 mod sheets;
 mod shown;
+mod signs;
 mod stored;
 mod telling;
 
@@ -36,11 +37,13 @@ pub enum Kind {
     Sheets,
     Sources,
     Wides,
+    Signs,
+    Calls,
     Stored,
 }
 
 /// All kinds with their names, in the order that numbers them in `stored`.
-pub const KINDS: [(&str, Kind); 14] = [
+pub const KINDS: [(&str, Kind); 16] = [
     ("words", Kind::Words),
     ("encode", Kind::Encode),
     ("crc13", Kind::Crc13),
@@ -54,6 +57,8 @@ pub const KINDS: [(&str, Kind); 14] = [
     ("sheets", Kind::Sheets),
     ("sources", Kind::Sources),
     ("wides", Kind::Wides),
+    ("signs", Kind::Signs),
+    ("calls", Kind::Calls),
     ("stored", Kind::Stored),
 ];
 
@@ -61,7 +66,7 @@ pub const KINDS: [(&str, Kind); 14] = [
 pub const DEFAULT_SEED: u64 = 1;
 
 /// The sizes of a record and of a reply, in the order of the kinds; a `stored` record has the sizes of what it holds.
-const SIZES: [(usize, usize); 13] = [
+const SIZES: [(usize, usize); 15] = [
     (2, 12),
     (1, 3),
     (2_049, 4),
@@ -72,9 +77,11 @@ const SIZES: [(usize, usize); 13] = [
     (1_102, 80),
     (36, 75),
     (28, 17),
-    (547, 388),
-    (329, 52),
-    (296, 145),
+    (622, 396),
+    (337, 52),
+    (304, 153),
+    (286, 60),
+    (1, 48),
 ];
 
 impl Kind {

@@ -1,11 +1,12 @@
 //! The reply to each input.
 
 use super::bytes::{put, Bytes};
-use super::frame::{take_edition, take_rules, PayloadRule, HEADER_ROOM, PAYLOAD_ROOM};
+use super::frame::{take_call, take_edition, take_rules, PayloadRule, HEADER_ROOM, PAYLOAD_ROOM};
 use super::inputs::PAGE_ROOM;
 use super::sheets::{put_counts, put_sheet, put_source, take_sheet, Wide};
 use super::Kind;
 use crate::air::AIR_BITS;
+use crate::call_sign::call_sign_bits;
 use crate::crc::crc13;
 use crate::frame::read_frame;
 use crate::header::{crc5, read_header, write_header, Field, Heard, FIELDS, GIVEN};
@@ -54,13 +55,13 @@ pub(super) fn reply(kind: Kind, input: &[u8]) -> Vec<u8> {
         }
         Kind::Headers => {
             let rules = take_rules(&mut input);
-            heard_reply(read_header(rules, input.sized(HEADER_ROOM)), &mut out);
+            heard_reply(read_header(rules, None, input.sized(HEADER_ROOM)), &mut out);
         }
         Kind::Writes => write_reply(&mut input, &mut out),
         Kind::Frames => {
             let rules = take_rules(&mut input);
             let air = input.sized(HEADER_ROOM);
-            heard_reply(read_frame(rules, air, &payload(&mut input)), &mut out);
+            heard_reply(read_frame(rules, None, air, &payload(&mut input)), &mut out);
         }
         Kind::Pages => match read_page(input.sized(PAGE_ROOM)) {
             Ok(page) => page_reply(&page, &mut out),
@@ -77,6 +78,13 @@ pub(super) fn reply(kind: Kind, input: &[u8]) -> Vec<u8> {
             put(&mut out, 8, source.repaired());
         }
         Kind::Wides => wide_reply(&mut input, &mut out),
+        Kind::Signs => {
+            let rules = take_rules(&mut input);
+            let call = take_call(&mut input);
+            let air = input.take(AIR_BITS);
+            heard_reply(read_frame(rules, call, air, &payload(&mut input)), &mut out);
+        }
+        Kind::Calls => out.extend(call_sign_bits(input.u8().into())),
         Kind::Stored => unreachable!("a stored record has the kind of what it holds"),
     }
     out.resize(kind.reply_bytes(), 0);
@@ -206,9 +214,10 @@ fn shown_reply(input: &mut Bytes, out: &mut Vec<u8>) {
 
 fn sheet_reply(input: &mut Bytes, out: &mut Vec<u8>) {
     let rules = take_rules(input);
+    let call = take_call(input);
     let mut sheet = take_sheet(input);
     let air = input.take(AIR_BITS);
-    heard_reply(sheet.offer(rules, air, &payload(input)), out);
+    heard_reply(sheet.offer(rules, call, air, &payload(input)), out);
     // beside a refusal the fields of a header and the patterns are zeros
     out.resize(Kind::Headers.reply_bytes(), 0);
     put_sheet(&sheet, out);
@@ -220,7 +229,7 @@ fn wide_reply(input: &mut Bytes, out: &mut Vec<u8>) {
     let wide = Wide::take(input);
     let mut sheet = wide.sheet();
     let air = input.take(AIR_BITS);
-    let answer = sheet.offer(rules, air, &payload(input));
+    let answer = sheet.offer(rules, None, air, &payload(input));
     let number = match &answer {
         Ok(heard) => heard.header[Field::SrcId] as u8,
         Err(_) => wide.number,

@@ -208,7 +208,7 @@ pub(super) fn wide_inputs(rng: &mut Rng) -> Vec<Vec<u8>> {
     for _ in 0..1_500 {
         let sheet = made_up(rng);
         let frame = offered(rng, Edition::Corrected);
-        let own = read_frame(frame.rules, &frame.slice, &frame.rule.payload());
+        let own = read_frame(frame.rules, None, &frame.slice, &frame.rule.payload());
         let number = match own {
             Ok(heard) if rng.one_in(2) => heard.header[Field::SrcId] as u8,
             _ => rng.below(128) as u8,
@@ -224,7 +224,7 @@ pub(super) fn wide_inputs(rng: &mut Rng) -> Vec<Vec<u8>> {
 }
 
 /// A frame with at most one thing wrong, under limits that are named in earnest and some that are not.
-fn offered(rng: &mut Rng, edition: Edition) -> Frame {
+pub(super) fn offered(rng: &mut Rng, edition: Edition) -> Frame {
     let rule = PayloadRule::short(rng);
     let mut header = fresh_header(rng, edition, &rule.payload());
     // 4 to 8 by one field that is not as it should be; most fields may be anything
@@ -247,9 +247,5 @@ fn offered(rng: &mut Rng, edition: Edition) -> Frame {
         1..=3 => USUAL_LIMIT,
         _ => LARGEST_LIMIT,
     };
-    Frame {
-        rules: Rules { edition, limit },
-        slice: air.to_vec(),
-        rule,
-    }
+    Frame::new(Rules { edition, limit }, air, rule)
 }

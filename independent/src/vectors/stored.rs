@@ -22,7 +22,7 @@ struct Share {
 }
 
 /// The shares of the kinds, in the order that numbers them: all but `stored` itself.
-const SHARES: [(Kind, Share); 13] = [
+const SHARES: [(Kind, Share); 15] = [
     (Kind::Words, one_of(1, 0)),
     (Kind::Encode, one_of(1, 0)),
     (Kind::Crc13, one_of(7, 0)),
@@ -33,9 +33,11 @@ const SHARES: [(Kind, Share); 13] = [
     (Kind::Pages, one_of(23, 8)),
     (Kind::Rows, one_of(3, 34)),
     (Kind::Shown, one_of(61, 1)),
-    (Kind::Sheets, one_of(17, 8)),
+    (Kind::Sheets, one_of(29, 8)),
     (Kind::Sources, one_of(13, 0)),
     (Kind::Wides, one_of(23, 8)),
+    (Kind::Signs, one_of(29, 8)),
+    (Kind::Calls, one_of(1, 0)),
 ];
 
 const fn one_of(every: usize, places: usize) -> Share {

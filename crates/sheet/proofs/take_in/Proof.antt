@@ -6,8 +6,8 @@ use Rattle.sheet.proofs.Offering.{itself, asGiven, has-record, takes, t
 use Rattle.sheet.proofs.take_in.Statement.{statement}
 use Rattle.sheet.proofs.take_in.Tie as tie
 
-read-frame-in-requires : tie.Need-read-frame-in-requires
-read-frame-in-requires c κs = search needs
+read-frame-with-requires : tie.Need-read-frame-with-requires
+read-frame-with-requires c κs = search needs
 
 enum-known-answer : tie.Need-enum-known-answer
 enum-known-answer c = search needs
@@ -31,7 +31,7 @@ pub take-in-spec : {M : Type 1} → statement M
 take-in-spec =
     tie.close
     (tie.spec
-    read-frame-in-requires
+    read-frame-with-requires
     enum-known-answer
     accept-requires
     enum-known-answer-2

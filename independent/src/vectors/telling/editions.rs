@@ -53,8 +53,7 @@ pub(super) fn inputs(kind: Kind, rng: &mut Rng) -> Vec<Vec<u8>> {
 /// A frame of this header, whose CRC5 is that of the edition it is read under.
 fn sealed(rules: Rules, mut header: Header, rule: PayloadRule) -> Frame {
     seal(rules.edition, &mut header, &rule.payload());
-    let slice = header.to_air().to_vec();
-    Frame { rules, slice, rule }
+    Frame::new(rules, header.to_air(), rule)
 }
 
 /// Frames that are written under each edition and read under each, with these as header bits 32 to 35.

@@ -32,11 +32,7 @@ fn frame(rng: &mut Rng, src_id: usize, caller: u16, fr_cnt_tx: u8) -> Frame {
     for flip in 0..fr_cnt_tx.min(14) {
         flip_some(rng, &mut air, flip.into(), 1);
     }
-    Frame {
-        rules: widest(FLOWN),
-        slice: air.to_vec(),
-        rule,
-    }
+    Frame::new(widest(FLOWN), air, rule)
 }
 
 /// Sheets on which neither lane of a source was heard, one of them, or both, with other counters: a frame of each lane,

@@ -4,6 +4,7 @@ mod editions;
 mod lanes;
 mod limits;
 mod patterns;
+mod signs;
 
 use super::{shown, Kind};
 use crate::rng::Rng;
@@ -17,5 +18,6 @@ pub(super) fn inputs(kind: Kind, seed: u64) -> Vec<Vec<u8>> {
     inputs.extend(limits::inputs(kind, &mut Rng::new(seed)));
     inputs.extend(lanes::inputs(kind, &mut Rng::new(seed)));
     inputs.extend(editions::inputs(kind, &mut Rng::new(seed)));
+    inputs.extend(signs::inputs(kind, &mut Rng::new(seed)));
     inputs
 }

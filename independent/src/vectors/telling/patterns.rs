@@ -31,11 +31,7 @@ fn one_word_damaged(rng: &mut Rng) -> Vec<Frame> {
             let rule = PayloadRule::short(rng);
             let mut air = fresh_header(rng, FLOWN.edition, &rule.payload()).to_air();
             flip_some(rng, &mut air, word, flips);
-            frames.push(Frame {
-                rules: FLOWN,
-                slice: air.to_vec(),
-                rule,
-            });
+            frames.push(Frame::new(FLOWN, air, rule));
         }
     }
     frames

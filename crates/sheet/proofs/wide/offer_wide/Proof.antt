@@ -23,7 +23,7 @@ whole-requires : tie.Need-whole-requires
 whole-requires c κs = search needs
 
 take-wide-in-requires : tie.Need-take-wide-in-requires
-take-wide-in-requires c κs = search (needs, has-room Corrected held wideOffered, mine)
+take-wide-in-requires c κs = search (needs, has-room Corrected held, mine)
 
 returns-2 : tie.Need-returns-2
 returns-2 c = search needs

@@ -1,10 +1,10 @@
--- `sheet::offer` meets its contract: a full sheet gives 17, a frame of the other edition 22, and any other frame is taken.
+-- `sheet::offer_with` meets its contract: a full sheet gives 17, a frame of the other edition 22, and any other frame is taken.
 -- Assumes nothing.
 use borrow.Author.Needs.{needs}
 use Rattle.base.specs.declared.Edition.the-variants.{Flown}
 use Rattle.sheet.proofs.Offering.{itself, asGiven, gives-17, has-room, mine, gives-22}
-use Rattle.sheet.proofs.offer.Statement.{statement}
-use Rattle.sheet.proofs.offer.Tie as tie
+use Rattle.sheet.proofs.offer_with.Statement.{statement}
+use Rattle.sheet.proofs.offer_with.Tie as tie
 
 full-requires : tie.Need-full-requires
 full-requires c κs = search needs
@@ -22,7 +22,7 @@ whole-requires : tie.Need-whole-requires
 whole-requires c κs = search needs
 
 take-in-requires : tie.Need-take-in-requires
-take-in-requires c κs = search (needs, has-room Flown itself asGiven, mine)
+take-in-requires c κs = search (needs, has-room Flown itself, mine)
 
 returns-2 : tie.Need-returns-2
 returns-2 c = search needs
@@ -33,8 +33,8 @@ not-taken-requires-2 c κs = search needs
 returns-3 : tie.Need-returns-3
 returns-3 c = search (needs, gives-22 Flown itself asGiven)
 
-pub offer-spec : {M : Type 1} → statement M
-offer-spec =
+pub offer-with-spec : {M : Type 1} → statement M
+offer-with-spec =
     tie.close
     (tie.spec
     full-requires

@@ -1,12 +1,12 @@
--- `frame::read_frame_in` meets its contract: a refused header refuses the frame, an accepted one leaves it to the payload.
+-- `frame::read_frame_with` meets its contract: a refused header refuses the frame, an accepted one leaves it to the payload.
 -- Assumes nothing.
 use borrow.Author.Needs.{needs}
 use Rattle.frame.proofs.Payloads.{frame-refused, frame-left}
-use Rattle.frame.proofs.read_frame_in.Statement.{statement}
-use Rattle.frame.proofs.read_frame_in.Tie as tie
+use Rattle.frame.proofs.read_frame_with.Statement.{statement}
+use Rattle.frame.proofs.read_frame_with.Tie as tie
 
-read-header-in-requires : tie.Need-read-header-in-requires
-read-header-in-requires c κs = search needs
+read-header-with-requires : tie.Need-read-header-with-requires
+read-header-with-requires c κs = search needs
 
 enum-known-answer : tie.Need-enum-known-answer
 enum-known-answer c = search needs
@@ -26,11 +26,11 @@ returns c = search (needs, frame-refused)
 returns-2 : tie.Need-returns-2
 returns-2 c = search (needs, frame-left)
 
-pub read-frame-in-spec : {M : Type 1} → statement M
-read-frame-in-spec =
+pub read-frame-with-spec : {M : Type 1} → statement M
+read-frame-with-spec =
     tie.close
     (tie.spec
-    read-header-in-requires
+    read-header-with-requires
     enum-known-answer
     enum-known-answer-2
     judge-payload-requires

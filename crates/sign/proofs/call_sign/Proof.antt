@@ -1,0 +1,50 @@
+-- `sign::call_sign` meets its contract. Invariant: the bits before n are the call sign's.
+-- Assumes nothing.
+use borrow.Author.Needs.{needs}
+use Prim.Native.Nat.{_-_}
+use Rattle.base.proofs.Fill.{Filled, fill-starts, fill-goes-on, fill-whole}
+use Rattle.sign.specs.CallSigns.{signBit, signWidth, signOf}
+use Rattle.sign.proofs.call_sign.Statement.{statement}
+use Rattle.sign.proofs.call_sign.Tie as tie
+
+abbrev Inv-loop : tie.InvT-loop
+Inv-loop satellite bits₀ n₀ bits n = Filled (signBit satellite) signWidth bits₀ n bits
+
+abbrev μ-loop : tie.MeasureT-loop
+μ-loop satellite bits₀ n₀ bits n = signWidth - n
+
+loop-holds : tie.Need-loop-holds Inv-loop μ-loop
+loop-holds c = search (needs, fill-starts)
+
+sign-bit-requires : tie.Need-sign-bit-requires Inv-loop μ-loop
+sign-bit-requires c κs = search needs
+
+array-write-bits : tie.Need-array-write-bits Inv-loop μ-loop
+array-write-bits c = search needs
+
+add-n : tie.Need-add-n Inv-loop μ-loop
+add-n c = search needs
+
+loop-less : tie.Need-loop-less Inv-loop μ-loop
+loop-less c = search needs
+
+loop-again : tie.Need-loop-again Inv-loop μ-loop
+loop-again c = search (needs, fill-goes-on)
+
+returns : tie.Need-returns Inv-loop μ-loop
+unfolding signOf
+returns c = search (needs, fill-whole)
+
+pub call-sign-spec : {M : Type 1} → statement M
+call-sign-spec =
+    tie.close
+    (tie.spec
+    Inv-loop
+    μ-loop
+    loop-holds
+    sign-bit-requires
+    array-write-bits
+    add-n
+    loop-less
+    loop-again
+    returns)

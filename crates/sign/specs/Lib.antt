@@ -1,0 +1,2 @@
+pub mod CallSigns
+pub mod Calls
