@@ -1,7 +1,7 @@
 """The front end: builds what a command needs on first use, and runs it. See README.md.
 
-Status 0; 1 where a read or a write failed, a replay found a difference, or a strict listing was cut; 2 where a command or a
-file cannot be used. Ended by a signal, it ends by that signal.
+Status 0; 1 where a read or a write failed, a replay found a difference, a strict listing was cut, or a field was refused; 2
+where a command or a file cannot be used. Ended by a signal, it ends by that signal.
 """
 
 import os
@@ -15,15 +15,17 @@ from options import Help, taken, whole_number
 
 # What only some commands need is imported where it is used, so that the others start at once.
 TOP = os.path.dirname(os.path.dirname(os.path.realpath(__file__)))
+# the largest number of a field, and the largest value, that may be asked for
+LARGEST = 2**32 - 1
 
 
-def list_words():
-    """The words that run `list`, built where needed."""
+def words_of(name):
+    """The words that run a proved program, built where needed."""
     import builds
 
-    program = builds.list_program(TOP)
+    program = builds.proved_program(TOP, name)
     builds.ready(program)
-    return builds.words_for_list(program, os.uname().machine)
+    return builds.words_for(program, os.uname().machine)
 
 
 def independent_binary():
@@ -41,7 +43,26 @@ def list_command(words):
     options, files = taken(words, flags=("--names", "--strict"), valued={"--edition": listing.EDITIONS})
     for name in files:
         listing.check(name)
-    return listing.list_all(listing.with_options(list_words(), options), files, "names" in options)
+    return listing.list_all(listing.with_options(words_of("list"), options), files, "names" in options)
+
+
+def beesat_command(words):
+    import listing
+
+    _, files = taken(words)
+    name = listing.only(files)
+    return listing.list_all(words_of("beesat_list"), [name], program="beesat_list")
+
+
+def beesat_set_command(words):
+    import listing
+
+    _, rest = taken(words)
+    if len(rest) < 2:
+        raise Unusable("beesat-set takes the number of a field and a value")
+    numbers = [str(whole_number(word, LARGEST)) for word in rest[:2]]
+    name = listing.only(rest[2:])
+    return listing.list_all([*words_of("beesat_set"), *numbers], [name], program="beesat_set")
 
 
 def explain_command(words):
@@ -58,10 +79,14 @@ def replay_command(words):
     import listing
     import replay
 
+    if replay.BEESAT in words:
+        options, rest = taken(words, flags=replay.BEESAT_FLAGS, valued=replay.BEESAT_VALUED)
+        season = replay.frames_words(options, rest)
+        return replay.replay(words_of("beesat_list"), independent_binary(), replay.frames(season), "beesat_list")
     options, rest = taken(words, flags=replay.FLAGS, valued=replay.VALUED)
     season = replay.season_words(options, rest)
-    run_list = listing.with_options(list_words(), options)
-    return replay.replay(run_list, independent_binary(), season, options.get("edition", listing.FLOWN))
+    run_list = listing.with_options(words_of("list"), options)
+    return replay.replay(run_list, independent_binary(), replay.records(season, options.get("edition", listing.FLOWN)))
 
 
 def bench_command(words):
@@ -70,7 +95,7 @@ def bench_command(words):
     _, rest = taken(words)
     if rest:
         raise Unusable("bench takes no words")
-    run = list_words()
+    run = words_of("list")
     bench.bench(run, independent_binary(), emulated=len(run) > 1)
     return DONE
 
@@ -85,6 +110,8 @@ def help_command(words):
 
 COMMANDS = {
     "list": list_command,
+    "beesat": beesat_command,
+    "beesat-set": beesat_set_command,
     "explain": explain_command,
     "replay": replay_command,
     "bench": bench_command,

@@ -82,9 +82,9 @@ def crates_below(top, name):
     return sorted(found)
 
 
-def list_program(top):
-    """The program `list`, proved and compiled by the kit."""
-    crates = crates_below(top, "list")
+def proved_program(top, name):
+    """A program of the crates, proved and compiled by the kit."""
+    crates = crates_below(top, name)
 
     def sources():
         yield os.path.join(top, "crates.txt")
@@ -92,8 +92,8 @@ def list_program(top):
             for part in ("src", "specs", "proofs"):
                 yield from _files(os.path.join(top, "crates", crate, part))
 
-    binary = ("target", "bin", "list")
-    return Program(top, "list", binary, sources, ["rt", "check", "list"], "the Rattle kit's command rt", crates)
+    binary = ("target", "bin", name)
+    return Program(top, name, binary, sources, ["rt", "check", name], "the Rattle kit's command rt", crates)
 
 
 def independent_program(top):
@@ -230,11 +230,11 @@ def kit(purpose):
     return os.path.dirname(os.path.dirname(told))
 
 
-def words_for_list(program, machine):
-    """The words that run `list` on a machine. It is compiled for x86-64; elsewhere the kit has an emulator."""
+def words_for(program, machine):
+    """The words that run a proved program on a machine. It is compiled for x86-64; elsewhere the kit has an emulator."""
     if machine == "x86_64":
         return [program.binary]
-    purpose = f"list is compiled for x86-64, and on {machine} it needs the Rattle kit's emulator"
+    purpose = f"{program.name} is compiled for x86-64, and on {machine} it needs the Rattle kit's emulator"
     tools = os.path.join(kit(purpose), "on", machine, "toolchain")
     emulator = os.path.join(tools, "bin", "qemu-x86_64")
     if not os.access(emulator, os.X_OK):

@@ -1,4 +1,4 @@
-"""The command `list`: the listing of standard input, or of each file."""
+"""The commands that hand an input to a program, `list` first: standard input, or each file."""
 
 import errno
 import os
@@ -25,6 +25,15 @@ def check(name):
         raise Unusable(f"{name}: {reason(error)}") from error
 
 
+def only(files):
+    """The one file of a command that takes no more; standard input where none is named."""
+    if len(files) > 1:
+        raise Unusable(f"one file is taken, and this is too much: {' '.join(files[1:])}")
+    name = files[0] if files else STANDARD_INPUT
+    check(name)
+    return name
+
+
 def with_options(words, options):
     """The words that run `list`, with those that the options add."""
     if options.get("edition", FLOWN) == CORRECTED:
@@ -32,33 +41,33 @@ def with_options(words, options):
     return [*words, "--strict"] if "strict" in options else words
 
 
-def list_all(words, files, names):
-    """Lists the files in turn, each from a new sheet; answers the status."""
+def list_all(words, files, names=False, program="list"):
+    """Hands the files to a program in turn, each by itself; answers the status."""
     status = DONE
     for name in files or [STANDARD_INPUT]:
         shown = "standard input" if name == STANDARD_INPUT else name
         if names:
             say(f"==> {shown} <==\n")
         if name == STANDARD_INPUT:
-            went_well = list_one(words, shown, None)
+            went_well = list_one(words, shown, None, program)
         else:
             try:
                 file = open(name, "rb")
             except OSError as error:
                 raise Unusable(f"{name}: {reason(error)}") from error
             with file:
-                went_well = list_one(words, shown, file)
+                went_well = list_one(words, shown, file, program)
         if not went_well:
             status = FAILED
     return status
 
 
-def list_one(words, shown, file, **output):
-    """Lists one input; answers whether it was read to its end and, where that is asked, not cut.
+def list_one(words, shown, file, program="list", **output):
+    """Hands one input to a program; answers whether it was read to its end, and neither refused nor, where that is asked, cut.
 
-    The program has no status of its own, so what it told says what happened.
+    A program has no status of its own, so what it told says what happened.
     """
-    status, told = run(words, "list", stdin=file, **output)
+    status, told = run(words, program, stdin=file, **output)
     for line in told:
         if line.startswith("write: "):
             raise Failed(line)
@@ -66,5 +75,5 @@ def list_one(words, shown, file, **output):
             raise Unusable(line)
         tell(f"{shown}: {line}")
     if status != 0:
-        raise Unusable(f"list could not be run (status {status})")
-    return not any(line.startswith(("read: ", "cut at byte ")) for line in told)
+        raise Unusable(f"{program} could not be run (status {status})")
+    return not any(line.startswith(("read: ", "cut at byte ", "refused ")) for line in told)

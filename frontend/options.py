@@ -47,6 +47,7 @@ def whole_number(word, most=2**64 - 1):
     """A whole number, in decimal digits."""
     if not (word.isascii() and word.isdigit()):
         raise Unusable(f"not a whole number: {word}")
-    if int(word) > most:
+    digits = word.lstrip("0") or "0"
+    if len(digits) > len(str(most)) or int(digits) > most:
         raise Unusable(f"too large a number: {word}")
-    return int(word)
+    return int(digits)

@@ -1,5 +1,6 @@
 """The command `replay`: a season listed by this program and by the independent one, every line compared."""
 
+import collections
 import itertools
 import os
 import re
@@ -12,8 +13,26 @@ from running import run
 
 FLAGS = ("--clean", "--full", "--full-exact")
 VALUED = {"--edition": EDITIONS, "--payload": (), "--cut": ("length", "lone", "header", "payload")}
+# a season of frames of BEESAT-1
+BEESAT = "--beesat"
+BEESAT_FLAGS = (BEESAT, "--clean")
+BEESAT_VALUED = {"--cut": ()}
 LONGEST_PAYLOAD = 1023
+LONGEST_REST = 143
 FULL_SHEET = 65535
+
+# How the independent program makes a season and lists it, what it is made of, and how many are wanted.
+Season = collections.namedtuple("Season", "made listed called wanted")
+
+
+def records(words, edition):
+    """A season of records under an edition."""
+    return Season(["season", *words], ["list", "--edition", edition], "records", int(words[1]))
+
+
+def frames(words):
+    """A season of frames of BEESAT-1."""
+    return Season(["beesat-season", *words], ["beesat"], "frames", int(words[1]))
 
 
 def season_words(options, rest):
@@ -25,6 +44,19 @@ def season_words(options, rest):
         raise Unusable("--full and --full-exact exclude each other")
     if "payload" in options:
         options = dict(options, payload=str(whole_number(options["payload"], LONGEST_PAYLOAD)))
+    return with_options(words, options)
+
+
+def frames_words(options, rest):
+    """The words of a season of frames, or what is wrong with them."""
+    if len(rest) != 2:
+        raise Unusable("replay takes a seed and a number of frames")
+    if "cut" in options:
+        options = dict(options, cut=str(whole_number(options["cut"], LONGEST_REST)))
+    return with_options([str(whole_number(word)) for word in rest], {name: options[name] for name in options if f"--{name}" != BEESAT})
+
+
+def with_options(words, options):
     for name, value in options.items():
         words += [f"--{name}"] if value is True else [f"--{name}", value]
     return words
@@ -39,21 +71,21 @@ def made_by(independent, words, what, **files):
         raise Failed(f"{what} failed: {why}")
 
 
-def replay(list_words, independent, season, edition):
-    """Makes a season, lists it twice under its edition and compares; answers the status."""
+def replay(list_words, independent, season, program="list"):
+    """Makes a season, lists it twice and compares; answers the status."""
     with leftovers.folder() as room:
         pass_, listed, expected = (os.path.join(room, name) for name in ("pass", "listed", "expected"))
         with open(pass_, "wb") as out:
-            made_by(independent, ["season", *season], "making the season", stdout=out)
+            made_by(independent, season.made, "making the season", stdout=out)
         with open(pass_, "rb") as file, open(listed, "wb") as out:
-            if not list_one(list_words, "the season", file, stdout=out):
+            if not list_one(list_words, "the season", file, program, stdout=out):
                 return FAILED
         with open(pass_, "rb") as file, open(expected, "wb") as out:
-            made_by(independent, ["list", "--edition", edition], "the independent listing", stdin=file, stdout=out)
-        return compare(listed, expected, int(season[1]))
+            made_by(independent, season.listed, "the independent listing", stdin=file, stdout=out)
+        return compare(listed, expected, season.wanted, season.called)
 
 
-def compare(listed, expected, wanted):
+def compare(listed, expected, wanted, called="records"):
     """Compares two listings line by line, and says what was compared."""
     lines, last, cut = 0, "", False
     with open(listed, errors="replace", encoding="ascii") as ours, open(expected, errors="replace", encoding="ascii") as theirs:
@@ -62,15 +94,15 @@ def compare(listed, expected, wanted):
                 return differs(lines, line, other)
             last, cut = line, cut or line == "cut\n"
     heard = int(re.match(r"heard (\d+) ", last)[1])
-    say(f"{heard} records, {lines} lines compared, no difference{what_was_left(heard, cut, wanted)}\n")
+    say(f"{heard} {called}, {lines} lines compared, no difference{what_was_left(heard, cut, wanted, called)}\n")
     return DONE
 
 
-def what_was_left(heard, cut, wanted):
+def what_was_left(heard, cut, wanted, called):
     """Where the listings were cut, why less was compared than the season has."""
     if not cut:
         return ""
-    if heard < FULL_SHEET:
+    if heard < FULL_SHEET or called != "records":
         return "; then both cut the listing"
     of_all = f" of the {wanted} records" if wanted > heard else ""
     return f"; a sheet takes {FULL_SHEET}{of_all}, and both cut the listing there"

@@ -4,14 +4,16 @@ ALL = """\
 usage: nolbreva COMMAND [OPTION ..] [WORD ..]
 
   list [FILE ..]                the listing of standard input, or of each file
+  beesat [FILE]                 a line for each BEESAT-1 frame of standard input, or of a file
+  beesat-set FIELD VALUE [FILE] the BEESAT-1 frame on standard input, or in a file, with one field written
   explain [NUMBER [PLACE]]      what a refusal means
   replay SEED N                 a season of N records, listed by this program and by an independent one, and compared
   bench                         how fast the two list the same passes
   help [COMMAND]                this text, or that of a command; so does --help after a command
   --version                     the version, the commit and the kit
 
-Status 0; 1 where a read or a write failed, a replay found a difference, or a strict listing was cut; 2 where a command
-or a file cannot be used.
+Status 0; 1 where a read or a write failed, a replay found a difference, a strict listing was cut, or a field was refused;
+2 where a command or a file cannot be used.
 """
 
 COMMANDS = {
@@ -24,6 +26,20 @@ The listing of standard input, or one listing for each file in turn; the file - 
   --names        puts the line '==> NAME <==' before each listing
   --strict       where a listing ends with `cut`, tells at which byte and why, and ends with status 1
 """,
+    "beesat": """\
+usage: nolbreva beesat [--] [FILE]
+
+A line for each frame of BEESAT-1: frames of 144 bytes one after another, on standard input, in the file, or in the file -,
+which is standard input. A rest under 144 bytes prints `cut` before the last line and is not counted.
+""",
+    "beesat-set": """\
+usage: nolbreva beesat-set [--] FIELD VALUE [FILE]
+
+Takes one frame of BEESAT-1, all of standard input or of the file, and writes it to standard output with the value in that
+field and the error field worked out afresh. FIELD and VALUE are decimal digits, up to 4294967295. Fields: 0 to 15 the
+values, 16 to 79 the state bits, 80 to 85 VCID, MCFC, VCFC, APID, sequence flag, PSC. Where that is refused, `refused NUMBER
+PLACE` is told on standard error, nothing is written, and the status is 1.
+""",
     "explain": """\
 usage: nolbreva explain [NUMBER [PLACE]]
 
@@ -32,6 +48,7 @@ place, what its place is; without a number, all of docs/REFUSALS.md's table.
 """,
     "replay": """\
 usage: nolbreva replay [--edition E] SEED N [OPTION ..]
+       nolbreva replay --beesat SEED N [--clean] [--cut L]
 
 Makes a season of N records by chance, the same for the same words, lists it by this program and by the independent one,
 and compares every line. Status 1 where they differ.
@@ -42,6 +59,7 @@ and compares every line. Status 1 where they differ.
   --full          65536 short records in place of N: they fill a sheet, and the last one cuts
   --full-exact    65535 short records in place of N
   --cut KIND      then a rest that is no whole record: length, lone, header or payload (independent/README.md)
+  --beesat        N frames of BEESAT-1 in place of records; --clean: only frames that read well; --cut L: then L bytes, 0 to 143
 """,
     "bench": """\
 usage: nolbreva bench

@@ -60,7 +60,7 @@ class Listings(unittest.TestCase):
             self.assertNotIn(b"source", out)
 
     def test_the_program_and_its_words(self):
-        program = builds.words_for_list(builds.list_program(TOP), os.uname().machine)
+        program = builds.words_for(builds.proved_program(TOP, "list"), os.uname().machine)
         for words in (CORRECTED, (*CORRECTED, "--strict"), ("--strict", *CORRECTED)):
             done = subprocess.run([*program, *words], input=read(CORRECTED_PASS), capture_output=True)
             self.assertEqual((done.stdout, done.stderr), (read(CORRECTED_LISTING), b""))
@@ -146,8 +146,10 @@ class Listings(unittest.TestCase):
         self.assertIn("bench", commands)
         for words in commands:
             with self.subTest(words):
-                status, out, told = run(*words.replace("FILE ..", PASS).replace("FILE", PASS).split())
-                self.assertEqual((status, told), (0, ""))
+                out = b""
+                for part in words.replace("FILE ..", PASS).replace("FILE", PASS).split(" | ./nolbreva "):
+                    status, out, told = run(*part.split(), given=out)
+                    self.assertEqual((status, told), (0, ""))
                 self.assertTrue(out)
                 if words == "bench":
                     # under an emulator there is no ratio

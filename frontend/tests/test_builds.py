@@ -160,14 +160,14 @@ class Builds(Repository):
 
 
 class Words(unittest.TestCase):
-    """How `list` is run on a machine."""
+    """How a program is run on a machine."""
 
     def words(self, machine, path):
         before = os.environ["PATH"]
         self.addCleanup(os.environ.__setitem__, "PATH", before)
         os.environ["PATH"] = path
         program = builds.Program("/top", "list", ("target", "bin", "list"), None, ["rt"], "rt")
-        return builds.words_for_list(program, machine)
+        return builds.words_for(program, machine)
 
     def test_on_its_own_processor_by_itself(self):
         self.assertEqual(self.words("x86_64", "/none"), ["/top/target/bin/list"])

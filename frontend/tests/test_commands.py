@@ -42,7 +42,14 @@ class Commands(unittest.TestCase):
                       ["replay", "1", "1", "--full", "--full-exact"], ["replay", "1", str(2**64)], ["replay", "--edition", "1", "1"],
                       ["replay", "1", "1", "--edition"], ["explain", "x"], ["explain", "1", "2", "3"],
                       ["help", "fly"], ["--version", "now"], ["list", "--bogus"], ["list", "--edition"], ["list", "--edition", "salsat"],
-                      ["list", "examples/none"], ["list", "crates"]):
+                      ["list", "examples/none"], ["list", "crates"], ["beesat", "--strict"], ["beesat", "examples/none"], ["beesat", "crates"],
+                      ["beesat", "examples/pass", "examples/pass"], ["beesat", "-", "-"], ["beesat-set"], ["beesat-set", "0"],
+                      ["beesat-set", "0", "x"], ["beesat-set", "x", "0"], ["beesat-set", "", "0"], ["beesat-set", "0", "-1"], ["beesat-set", "+1", "0"],
+                      ["beesat-set", "0x1", "0"], ["beesat-set", "1.0", "0"], ["beesat-set", "0", "4294967296"], ["beesat-set", "4294967296", "0"],
+                      ["beesat-set", "9" * 5000, "0"], ["beesat-set", "0", "0", "examples/none"], ["beesat-set", "0", "0", "crates"],
+                      ["beesat-set", "0", "0", "examples/pass", "examples/pass"], ["replay", "--beesat", "1"], ["replay", "--beesat", "1", "x"],
+                      ["replay", "--beesat", "1", "1", "--cut", "144"], ["replay", "--beesat", "1", "1", "--cut", "lone"],
+                      ["replay", "--beesat", "1", "1", "--full"], ["replay", "--beesat", "--edition", "flown", "1", "1"]):
             with self.subTest(words):
                 status, out, told = run(*words, cwd=TOP)
                 self.assertEqual((status, out), (2, ""))

@@ -36,6 +36,12 @@ class Readme(unittest.TestCase):
         self.assertIn(f"\n\n    ./nolbreva list --edition corrected {pass_}\n", self.readme)
         self.assertIn(f"\n\n{quoted(read(listing))}\n", self.readme)
 
+    def test_the_frames_of_beesat_1(self):
+        frames, listing, one = (os.path.join("examples", "cases", f"beesat_{name}") for name in ("frames.in", "frames.out", "one.in"))
+        self.assertIn(f"\n\n    ./nolbreva beesat {frames}\n", self.readme)
+        self.assertIn(f"\n\n{quoted(read(listing))}\n", self.readme)
+        self.assertIn(f"\n\n    ./nolbreva beesat-set 83 2047 {one} | ./nolbreva beesat\n", self.readme)
+
     def test_the_explanation(self):
         said = refusals.explain(refusals.read(TOP), 3, 4).rstrip()
         self.assertIn("    ./nolbreva explain 3 4\n", self.readme)

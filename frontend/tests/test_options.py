@@ -45,7 +45,9 @@ class Options(unittest.TestCase):
     def test_whole_numbers(self):
         self.assertEqual(whole_number("007"), 7)
         self.assertEqual(whole_number(str(2**64 - 1)), 2**64 - 1)
-        for word in ("", "-1", "+1", "1.5", "x", "1_000", "\u0663", str(2**64)):
+        # as long as it likes, where most of it are zeros
+        self.assertEqual(whole_number("0" * 5000 + "7", 9), 7)
+        for word in ("", "-1", "+1", "1.5", "x", "1_000", "\u0663", str(2**64), "1" * 5000):
             with self.subTest(word), self.assertRaises(Unusable):
                 whole_number(word)
 

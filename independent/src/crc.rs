@@ -1,4 +1,4 @@
-//! The bit-by-bit rule of the two checksums, and CRC13.
+//! The bit-by-bit rule of the checksums, and CRC13.
 
 /// A checksum: so many bits wide, with the polynomial's highest power implied, and no final change.
 #[derive(Clone, Copy, Debug)]
@@ -25,17 +25,34 @@ pub const CRC5: Crc = Crc {
     start: 0x1F,
 };
 
+/// The error field of BEESAT-1, "the CCSDS rule: polynomial 0x1021, start 0xFFFF".
+pub const CRC16: Crc = Crc {
+    width: 16,
+    polynomial: 0x1021,
+    start: 0xFFFF,
+};
+
 impl Crc {
     /// "From the last to the first, each most significant bit first."
-    ///
+    #[inline(always)]
+    pub fn of(&self, bytes: &[u8]) -> u16 {
+        self.through(bytes.iter().rev())
+    }
+
+    /// From the first byte to the last, each most significant bit first.
+    #[inline(always)]
+    pub fn in_order(&self, bytes: &[u8]) -> u16 {
+        self.through(bytes.iter())
+    }
+
     /// The polynomial is added where the register's top bit differs from the data bit.
     // Inlined always, so that width and polynomial are constants where it is used: whether they are is else left to chance.
     #[inline(always)]
-    pub fn of(&self, bytes: &[u8]) -> u16 {
+    fn through<'a>(&self, bytes: impl Iterator<Item = &'a u8>) -> u16 {
         let top = self.width - 1;
         let mask = u16::MAX >> (u16::BITS - self.width);
         let mut register = self.start;
-        for &byte in bytes.iter().rev() {
+        for &byte in bytes {
             for i in (0..u8::BITS).rev() {
                 let differ = (register >> top ^ u16::from(byte >> i)) & 1 == 1;
                 register = register << 1 & mask;
@@ -62,6 +79,14 @@ mod tests {
         assert_eq!(crc13(&[]), 0x1FFF);
         assert_eq!(crc13(&[0xFF]), 0x1F00);
         assert_eq!(crc13(&[0xFF, 0xFF]), 0x13D4);
+    }
+
+    #[test]
+    fn the_published_check_value_of_crc16() {
+        // That of CRC-16 with polynomial 0x1021 and start 0xFFFF in the catalogues of checksums.
+        assert_eq!(CRC16.in_order(b"123456789"), 0x29B1);
+        assert_eq!(CRC16.of(b"987654321"), 0x29B1);
+        assert_eq!(CRC16.in_order(&[]), 0xFFFF);
     }
 
     #[test]

@@ -1,6 +1,6 @@
-//! S-NET and SALSAT air headers, power pages and the pass sheet.
+//! S-NET and SALSAT air headers, power pages and the pass sheet; BEESAT-1 frames.
 //!
-//! A second implementation of paper 01 and of requests b, d to g, m and n of paper 02, written from the papers
+//! A second implementation of paper 01 and of requests b, d to h, m and n of paper 02, written from the papers
 //! alone, so that two programs that share no thought can be compared line by line. It prefers the plain
 //! way over the quick one: words are repaired by trying all 32 valid words, checksums run bit by bit.
 //!
@@ -11,7 +11,7 @@
 //! | [`word`] | valid words, repair with its flip pattern |
 //! | [`call_sign`] | the four call signs and their bits |
 //! | [`air`] | 210 elements on air, fourteen words |
-//! | [`crc`] | CRC13, and the bit-by-bit rule of both checksums |
+//! | [`crc`] | CRC13, and the bit-by-bit rule of every checksum |
 //! | [`header`] | fields, CRC5, header read (20, 1 to 6, 21, 23, 24) and written (13 to 15), the worst word |
 //! | [`frame`] | header and payload together (7, 8) |
 //! | [`page`] | payload header, power page read (9 to 12) and written (18) |
@@ -19,10 +19,12 @@
 //! | [`sheet`] | the pass sheet (17, 22), what it counts, its lanes |
 //! | [`listing`] | the listing |
 //! | [`catches`] | what CRC5 alone catches |
+//! | [`beesat`] | BEESAT-1 frames read (25 to 28), one field written (38, 29), their listing |
 //!
-//! The rest makes material to compare with: [`rng`], [`sample`], [`season`], [`example`], [`vectors`].
+//! [`pieces`] takes input as it comes. The rest makes material to compare with: [`rng`], [`sample`], [`season`], [`example`], [`vectors`].
 
 pub mod air;
+pub mod beesat;
 pub mod call_sign;
 pub mod catches;
 pub mod crc;
@@ -31,6 +33,7 @@ pub mod frame;
 pub mod header;
 pub mod listing;
 pub mod page;
+pub mod pieces;
 pub mod refusal;
 pub mod rng;
 pub mod rules;

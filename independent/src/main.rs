@@ -7,6 +7,8 @@ use std::io::{self, BufReader, BufWriter, ErrorKind, Read, StdoutLock, Write};
 use std::path::Path;
 use std::process::ExitCode;
 
+use independent::beesat::commands::{list_frames, set_field};
+use independent::beesat::{self, FRAME_BYTES};
 use independent::catches::write_catches;
 use independent::example::write_example;
 use independent::header::LONGEST_PAYLOAD;
@@ -34,6 +36,13 @@ usage: independent COMMAND ..
                              payload  a record that ends in its payload
   example                  the records of a small example pass
   catches                  which changes of a header CRC5 does not see, and what CRC13 does not
+  beesat [FILE]            a line for each BEESAT-1 frame of the file, or of standard input (-)
+  beesat-set FIELD VALUE [FILE]
+                           the frame with one field written; FIELD and VALUE are decimal digits
+  beesat-season SEED N [OPTION ..]
+                           N BEESAT-1 frames by chance
+      --clean              only frames that read well
+      --cut L              then L bytes of one more frame, 0 to 143
   vectors KIND [SEED]      a line for each input of KIND
   inputs KIND [SEED]       the inputs themselves, in binary
   replies KIND [SEED]      the replies to them, in binary
@@ -113,6 +122,12 @@ fn run(arguments: &[OsString], out: &mut Output) -> Result<bool, Stop> {
             no_more(rest)?;
             write_catches(out)
         }
+        Some("beesat") => {
+            let (mut input, name) = input_of(rest)?;
+            return listed(list_frames(&mut input, out), &name);
+        }
+        Some("beesat-set") => return set_one(rest, out),
+        Some("beesat-season") => beesat::season::write_season(&beesat_season_options(rest)?, out),
         Some("vectors") => {
             let (kind, seed) = vector_arguments(rest)?;
             write_lines(kind, seed, out)
@@ -166,7 +181,12 @@ fn list_one(
     out: &mut Output,
 ) -> Result<bool, Stop> {
     let mut input = BufReader::with_capacity(BUFFER, input);
-    match list(edition, &mut input, out) {
+    listed(list(edition, &mut input, out), name)
+}
+
+/// What came of a listing; false where its input could not be read to its end.
+fn listed(result: Result<(), Failure>, name: &str) -> Result<bool, Stop> {
+    match result {
         Ok(()) => Ok(true),
         Err(Failure::Read(error)) => {
             tell(&format!("{name}: {error}"));
@@ -174,6 +194,79 @@ fn list_one(
         }
         Err(Failure::Write(error)) => Err(failed_write(error)),
     }
+}
+
+/// The one file of a command, with its name; standard input where there is none, or where it is `-`.
+fn input_of(arguments: &[OsString]) -> Result<(Box<dyn Read>, String), Stop> {
+    let (file, rest) = match arguments.split_first() {
+        Some((file, rest)) if file != "-" => (Some(file), rest),
+        Some((_, rest)) => (None, rest),
+        None => (None, arguments),
+    };
+    no_more(rest)?;
+    let Some(file) = file else {
+        let input = io::stdin().lock();
+        return Ok((Box::new(input), String::from("standard input")));
+    };
+    if file.to_str().is_some_and(|file| file.starts_with("--")) {
+        return Err(Stop::Usage(format!("no option {}", quoted(file))));
+    }
+    let name = Path::new(file).display().to_string();
+    match File::open(file) {
+        Ok(input) => Ok((Box::new(input), name)),
+        Err(error) => Err(Stop::Failed { what: name, error }),
+    }
+}
+
+/// Writes one field of a BEESAT-1 frame; false where it was refused.
+fn set_one(arguments: &[OsString], out: &mut Output) -> Result<bool, Stop> {
+    let [field, value, rest @ ..] = arguments else {
+        return Err(Stop::Usage(String::from(
+            "beesat-set takes FIELD VALUE [FILE]",
+        )));
+    };
+    let (field, value) = (digits(field, "FIELD")?, digits(value, "VALUE")?);
+    let (mut input, what) = input_of(rest)?;
+    match set_field(&mut input, field, value) {
+        Err(error) => Err(Stop::Failed { what, error }),
+        Ok(Err(refusal)) => {
+            tell(&refusal.to_string());
+            Ok(false)
+        }
+        Ok(Ok(frame)) => out.write_all(&frame).map(|()| true).map_err(failed_write),
+    }
+}
+
+/// "Decimal digits; anything else, or above 4,294,967,295, is a usage error."
+fn digits(argument: &OsStr, name: &str) -> Result<u32, Stop> {
+    argument
+        .to_str()
+        .filter(|text| text.bytes().all(|byte| byte.is_ascii_digit()))
+        .and_then(|text| text.parse().ok())
+        .ok_or_else(|| {
+            let most = u32::MAX;
+            Stop::Usage(format!("{name} wants decimal digits, at most {most}"))
+        })
+}
+
+fn beesat_season_options(arguments: &[OsString]) -> Result<beesat::season::Options, Stop> {
+    let mut rest = arguments.iter();
+    let mut options = beesat::season::Options {
+        seed: number(rest.next(), "SEED", u64::MAX)?,
+        frames: number(rest.next(), "N", u64::MAX)?,
+        clean: false,
+        cut: 0,
+    };
+    while let Some(option) = rest.next() {
+        match option.to_str() {
+            Some("--clean") => options.clean = true,
+            Some("--cut") => {
+                options.cut = number(rest.next(), "L", FRAME_BYTES as u64 - 1)? as usize;
+            }
+            _ => return Err(Stop::Usage(format!("no option {}", quoted(option)))),
+        }
+    }
+    Ok(options)
 }
 
 fn season_options(arguments: &[OsString]) -> Result<Options, Stop> {

@@ -49,6 +49,18 @@ impl Rng {
         self.below(times) == 0
     }
 
+    /// One of a mixture, by its weight.
+    pub fn pick<T: Copy>(&mut self, mixture: &[(T, u32)]) -> T {
+        let mut left = self.below(mixture.iter().map(|(_, weight)| weight).sum());
+        for &(one, weight) in mixture {
+            if left < weight {
+                return one;
+            }
+            left -= weight;
+        }
+        unreachable!("a number below the sum of all weights falls to one of them")
+    }
+
     /// Fills with bytes, eight from each number, its high byte first.
     pub fn fill(&mut self, bytes: &mut [u8]) {
         for chunk in bytes.chunks_mut(8) {

@@ -125,18 +125,6 @@ const MIXTURE: [(Kind, u32); 14] = [
 /// The mixture of a clean season.
 const CLEAN_MIXTURE: [(Kind, u32); 2] = [(Kind::Clean, 1), (Kind::Light, 1)];
 
-/// Takes one kind by its weight.
-fn pick(rng: &mut Rng, mixture: &[(Kind, u32)]) -> Kind {
-    let mut left = rng.below(mixture.iter().map(|(_, weight)| weight).sum());
-    for &(kind, weight) in mixture {
-        if left < weight {
-            return kind;
-        }
-        left -= weight;
-    }
-    Kind::Clean
-}
-
 /// The state between records.
 struct Season {
     rng: Rng,
@@ -171,9 +159,9 @@ impl Season {
 
     fn next_record(&mut self) -> Record {
         let mixture: &[(Kind, u32)] = if self.clean { &CLEAN_MIXTURE } else { &MIXTURE };
-        let mut kinds = vec![pick(&mut self.rng, mixture)];
+        let mut kinds = vec![self.rng.pick(mixture)];
         if !self.clean && self.rng.one_in(6) {
-            kinds.push(pick(&mut self.rng, mixture));
+            kinds.push(self.rng.pick(mixture));
         }
         let record = match &self.last {
             Some(last) if kinds.contains(&Kind::Echo) => last.clone(),

@@ -36,14 +36,16 @@ fn lines(kind: Kind) -> Vec<String> {
     text.lines().map(String::from).collect()
 }
 
-/// The kinds but for `stored`.
-const OTHERS: usize = 15;
+/// The kinds but for the stored ones.
+const OTHERS: usize = 17;
 
 /// The size of a record of each kind, and of a reply.
 const SIZES: [usize; OTHERS] = [
-    2, 1, 2_049, 66, 263, 21, 267, 1_102, 36, 28, 622, 337, 304, 286, 1,
+    2, 1, 2_049, 66, 263, 21, 267, 1_102, 36, 28, 622, 337, 304, 286, 1, 162, 170,
 ];
-const REPLY_SIZES: [usize; OTHERS] = [12, 3, 4, 1, 60, 267, 60, 80, 75, 17, 396, 52, 153, 60, 48];
+const REPLY_SIZES: [usize; OTHERS] = [
+    12, 3, 4, 1, 60, 267, 60, 80, 75, 17, 396, 52, 153, 60, 48, 66, 171,
+];
 
 #[test]
 fn every_input_has_its_size_its_reply_and_its_line() {
@@ -208,7 +210,7 @@ fn vectors(kind: Kind) -> Vec<Vector> {
         .collect()
 }
 
-/// The vectors of `stored`, for each kind.
+/// The vectors of `stored` and `stored-beesat`, for each kind.
 fn stored() -> &'static [Vec<Vector>; OTHERS] {
     static STORED: OnceLock<[Vec<Vector>; OTHERS]> = OnceLock::new();
     STORED.get_or_init(made_stored)
@@ -216,16 +218,19 @@ fn stored() -> &'static [Vec<Vector>; OTHERS] {
 
 fn made_stored() -> [Vec<Vector>; OTHERS] {
     let mut vectors: [Vec<Vector>; OTHERS] = Default::default();
-    let (inputs, replies) = (inputs(Kind::Stored, DEFAULT_SEED), replies(Kind::Stored));
-    let (mut records, mut replies) = (inputs.as_slice(), replies.as_slice());
-    for line in lines(Kind::Stored) {
-        let kind = usize::from(records[0]);
-        let (record, later_records) = records[1..].split_at(SIZES[kind]);
-        let (reply, later_replies) = replies.split_at(REPLY_SIZES[kind]);
-        (records, replies) = (later_records, later_replies);
-        vectors[kind].push(Vector::new(record, reply, line));
+    for stream in [Kind::Stored, Kind::StoredBeesat] {
+        let (inputs, replies) = (inputs(stream, DEFAULT_SEED), replies(stream));
+        let (mut records, mut replies) = (inputs.as_slice(), replies.as_slice());
+        for line in lines(stream) {
+            let kind = usize::from(records[0]);
+            let (record, later_records) = records[1..].split_at(SIZES[kind]);
+            let (reply, later_replies) = replies.split_at(REPLY_SIZES[kind]);
+            (records, replies) = (later_records, later_replies);
+            assert_eq!(stream == Kind::StoredBeesat, kind > Kind::Calls as usize);
+            vectors[kind].push(Vector::new(record, reply, line));
+        }
+        assert!(records.is_empty() && replies.is_empty());
     }
-    assert!(records.is_empty() && replies.is_empty());
     vectors
 }
 
@@ -1131,6 +1136,7 @@ fn what_is_no_record_is_not_compared() {
     assert_eq!(compare(Kind::Words, &[0], &[]), None);
     assert_eq!(compare(Kind::Stored, &[15, 0], &[]), None);
     assert_eq!(compare(Kind::Stored, &[200], &[]), None);
+    assert_eq!(compare(Kind::StoredBeesat, &[16, 0], &[]), None);
     assert_eq!(compare(Kind::Stored, &[0, 0], &[]), None);
     assert_eq!(compare(Kind::Stored, &[], &[]).map(|c| c.records), Some(0));
 }
@@ -1156,11 +1162,26 @@ fn hash(bytes: &[u8]) -> u64 {
 #[test]
 fn stored_records_replies_and_lines_are_the_same_everywhere() {
     assert_eq!(hash(b"foobar"), 0x8594_4171_F739_67E8);
-    let bytes = inputs(Kind::Stored, DEFAULT_SEED);
-    let text = lines(Kind::Stored).join("\n") + "\n";
-    let replies = replies(Kind::Stored);
-    assert!(bytes.len() <= 1_600_000 && replies.len() <= 1_400_000);
-    assert_eq!(hash(&bytes), 0x824E_4912_FDC4_477F);
-    assert_eq!(hash(text.as_bytes()), 0x4039_4308_0DE8_5FC7);
-    assert_eq!(hash(&replies), 0xFDE4_654F_1F9D_8A95);
+    for (stream, records, text, answers) in [
+        (
+            Kind::Stored,
+            0x824E_4912_FDC4_477F,
+            0x4039_4308_0DE8_5FC7,
+            0xFDE4_654F_1F9D_8A95,
+        ),
+        (
+            Kind::StoredBeesat,
+            0x6794_3983_CD43_604A,
+            0x6F66_6AAC_BFBC_F15E,
+            0x1D22_9120_C69E_E8F6,
+        ),
+    ] {
+        let bytes = inputs(stream, DEFAULT_SEED);
+        let told = lines(stream).join("\n") + "\n";
+        let replies = replies(stream);
+        assert!(bytes.len() <= 1_600_000 && replies.len() <= 1_400_000);
+        assert_eq!(hash(&bytes), records);
+        assert_eq!(hash(told.as_bytes()), text);
+        assert_eq!(hash(&replies), answers);
+    }
 }

@@ -87,3 +87,21 @@ pub const SHEET_FULL: u8 = 17;
 
 // "page writer's output under 34"
 pub const SHORT_PAGE_OUTPUT: u8 = 18;
+
+// BEESAT-1: "not 144 bytes"
+pub const NOT_144_BYTES: u8 = 25;
+
+// "marker"
+pub const MARKER_DIFFERS: u8 = 26;
+
+// "error field"
+pub const ERROR_FIELD_DIFFERS: u8 = 27;
+
+// "a fixed header value"
+pub const FIXED_VALUE_DIFFERS: u8 = 28;
+
+// "value too large"
+pub const VALUE_TOO_LARGE: u8 = 29;
+
+// "no such field, or an idle frame"
+pub const NO_SUCH_FIELD: u8 = 38;

@@ -12,3 +12,4 @@ pub mod Parity
 pub mod OddChanges
 pub mod FourBits
 pub mod Order178
+pub mod Checked16

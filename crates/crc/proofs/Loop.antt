@@ -3,8 +3,8 @@
 use mathlib.Core.Path.{_≡_, refl, sym, _∙_}
 use mathlib.Core.List.{List, [], _∷_, _++_, foldl, foldl-append, flatMap, reverse}
 use Prim.Native.Nat.{ℕ, _^_, _≤_, _<_}
-use lib.ListN.{drop}
-use Rattle.base.proofs.Fold.{Downward, down-ends}
+use lib.ListN.{length, drop}
+use Rattle.base.proofs.Fold.{Upward, up-ends, Downward, down-ends}
 use Rattle.crc.specs.Crc.{byteBits, bitsOf, bitsOfBytes, crcStep, crcOf}
 use Rattle.crc.proofs.Width.{crc-lt}
 
@@ -23,7 +23,12 @@ module _ (w p : ℕ) where
   by-bytes start [] = refl
   by-bytes start (b ∷ bs) = by-bytes (crcByte start b) bs ∙ sym (crc-append start (bitsOf byteBits b) (bitsOfBytes bs))
 
-  -- the loop from the last byte to the first has them all in
+  -- the loop from the first byte to the last has them all in
+  pub up-bytes : (start : ℕ) (bytes : List ℕ) (i crc : ℕ) → Upward crcByte start bytes i crc → length bytes ≤ i
+      → crc ≡ crcOf w p start (bitsOfBytes bytes)
+  up-bytes start bytes i crc so h = up-ends crcByte start bytes i crc so h ∙ by-bytes start bytes
+
+  -- and so has the loop from the last byte to the first
   pub down-bytes : (start : ℕ) (bytes : List ℕ) (i crc : ℕ) → Downward crcByte start bytes i crc → i ≤ 0
       → crc ≡ crcOf w p start (bitsOfBytes (reverse bytes))
   down-bytes start bytes i crc so h = down-ends crcByte start bytes i crc so h ∙ by-bytes start (reverse bytes)

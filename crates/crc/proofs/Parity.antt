@@ -16,7 +16,7 @@ use borrow.Author.Tests.{eqb-true, eqb-false}
 use Rattle.base.specs.Lists.{AreBits, sumTo}
 use Rattle.base.proofs.Ones.{ones-sum, ones-low}
 use Rattle.base.proofs.Xor.{xor-odd, xor-half}
-use Rattle.crc.specs.Crc.{crcStep, crcOf, poly13}
+use Rattle.crc.specs.Crc.{crcStep, crcOf, poly13, poly16}
 use Rattle.crc.specs.Crc5.{poly5}
 use Rattle.crc.proofs.Width.{step-lt}
 
@@ -93,3 +93,7 @@ five-even = refl
 pub thirteen-even : onesIn 13 poly13 % 2 ≡ 1
 unfolding onesIn
 thirteen-even = refl
+
+pub sixteen-even : onesIn 16 poly16 % 2 ≡ 1
+unfolding onesIn
+sixteen-even = refl

@@ -10,7 +10,7 @@ use lib.Bits.{bitXor, xor-lt}
 use lib.Dec.{eqb, lit<}
 use lib.Pow.{pow-pos}
 use Rattle.base.specs.declared.Edition.{Edition}
-use Rattle.crc.specs.Crc.{crcStep, crcOf, bitsOfBytes, poly13, start13, crc13Of}
+use Rattle.crc.specs.Crc.{crcStep, crcOf, bitsOfBytes, poly13, start13, crc13Of, poly16, start16, crc16Of}
 use Rattle.crc.specs.Crc5.{countingBits, nineBytes, poly5, start5, crc5Over, crc5Of}
 
 -- one of two, each below m
@@ -35,10 +35,14 @@ module _ (w p : ℕ) (fits : p < 2 ^ w) where
   crc-lt start [] h = h
   crc-lt start (b ∷ bs) h = crc-lt (crcStep w p start b) bs (step-lt start b)
 
--- CRC13 has 13 bits, CRC5 has 5
+-- CRC13 has 13 bits, the checksum of CCSDS 16, CRC5 has 5
 pub crc13-lt : (payload : List ℕ) → crc13Of payload < 8192
 unfolding crc13Of
 crc13-lt payload = crc-lt 13 poly13 (lit< tt) start13 (bitsOfBytes (reverse payload)) (lit< tt)
+
+pub crc16-lt : (bytes : List ℕ) → crc16Of bytes < 65536
+unfolding crc16Of
+crc16-lt bytes = crc-lt 16 poly16 (lit< tt) start16 (bitsOfBytes bytes) (lit< tt)
 
 pub over-lt : (counted : ℕ) → crc5Over counted < 32
 unfolding crc5Over

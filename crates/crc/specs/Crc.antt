@@ -1,4 +1,4 @@
--- Checksums: one rule over width, polynomial and start, on a list of bits. CRC13 of a payload.
+-- Checksums: one rule over width, polynomial and start, on a list of bits. CRC13 of a payload; the 16-bit checksum of CCSDS.
 -- Assumes nothing.
 use mathlib.Core.Bool.{cond}
 use mathlib.Core.List.{List, foldl, flatMap, reverse}
@@ -41,3 +41,14 @@ start13 = 0x1FFF
 -- "Payload bytes from the last to the first, each most significant bit first."
 unfoldable pub crc13Of : List ℕ → ℕ
 crc13Of payload = crcOf 13 poly13 start13 (bitsOfBytes (reverse payload))
+
+-- "the CCSDS rule: polynomial 0x1021, start 0xFFFF" (x^16 implied, no final change)
+abbrev pub poly16 : ℕ
+poly16 = 0x1021
+
+abbrev pub start16 : ℕ
+start16 = 0xFFFF
+
+-- bytes from the first to the last, each most significant bit first
+unfoldable pub crc16Of : List ℕ → ℕ
+crc16Of bytes = crcOf 16 poly16 start16 (bitsOfBytes bytes)

@@ -3,7 +3,7 @@
 use mathlib.Core.List.{List}
 use Prim.Native.Nat.{ℕ}
 use Rattle.base.specs.Lists.{tabulate}
-use Rattle.crc.specs.Crc.{byteBits, bitsOf, crcOf, poly13}
+use Rattle.crc.specs.Crc.{byteBits, bitsOf, crcOf, poly13, poly16}
 
 -- the step of a byte: what its eight bits make of a checksum of 0
 unfoldable pub stepOf : ℕ → ℕ → ℕ → ℕ
@@ -15,3 +15,6 @@ stepsOf width poly = tabulate 256 (stepOf width poly)
 
 abbrev pub steps13 : List ℕ
 steps13 = stepsOf 13 poly13
+
+abbrev pub steps16 : List ℕ
+steps16 = stepsOf 16 poly16

@@ -1,13 +1,14 @@
-// Checksums: CRC13 of a payload, byte by byte, and CRC5 of a header, bit by bit.
+// Checksums: CRC13 of a payload and the 16-bit checksum of CCSDS, byte by byte, and CRC5 of a header, bit by bit.
 use base::Edition;
 ghost use mathlib.Core.Path.{_≡_};
 ghost use Prim.Native.Nat.{_+_, _*_, _<_, _^_};
-ghost use Rattle.crc.specs.Crc.{crcStep, crcOf, byteBits, bitsOf, poly13, crc13Of};
+ghost use Rattle.crc.specs.Crc.{crcStep, crcOf, byteBits, bitsOf, poly13, crc13Of, poly16, crc16Of};
 ghost use Rattle.crc.specs.Crc5.{poly5, countedFlown, countingBits, crc5Over, crc5Of};
 ghost use Rattle.crc.specs.Halves.{hiWidth, loWidth, headerBits};
-ghost use Rattle.crc.specs.Steps.{steps13};
+ghost use Rattle.crc.specs.Steps.{steps13, steps16};
 
 mod steps;
+mod steps16;
 
 const BYTE_BITS: u8 = 8;
 
@@ -16,6 +17,12 @@ const START13: u16 = 0x1FFF;
 
 // Below its eight highest bits stand five: 2^5.
 const LOW13: u16 = 0x20;
+
+// The 16-bit checksum. Its polynomial is in its table of steps.
+const START16: u16 = 0xFFFF;
+
+// Below its eight highest bits stand eight: 2^8.
+const LOW16: u16 = 0x100;
 
 // CRC5. The polynomial's x^5 is implied.
 const POLY5: u8 = 0x15;
@@ -64,6 +71,37 @@ pub fn crc13(payload: &[u8]) -> u16
 {
     let copy = steps::whole();
     crc13_in(&copy, payload)
+}
+
+// A byte into the 16-bit checksum, the same way.
+fn byte16_in(steps: &[u16; 256], crc: u16, byte: u8) -> u16
+    requires { ⌜ now steps ≡ steps16 ⌝ }
+    ensures { λ r. ⌜ r ≡ crcOf 16 poly16 crc (bitsOf byteBits byte) ⌝ }
+{
+    let top = (crc / LOW16) as u8;
+    steps::step_in(steps, top ^ byte) ^ (crc % LOW16 * 0x100)
+}
+
+// The 16-bit checksum by a lent copy of its table.
+fn crc16_in(steps: &[u16; 256], bytes: &[u8]) -> u16
+    requires { ⌜ now steps ≡ steps16 ⌝ }
+    ensures { λ r. ⌜ r ≡ crc16Of (now (bytes .entry)) ⌝ }
+{
+    let mut crc = START16;
+    let mut i = 0;
+    while i < bytes.len() {
+        crc = byte16_in(steps, crc, bytes[i]);
+        i += 1;
+    }
+    crc
+}
+
+// The 16-bit checksum of any bytes, from the first to the last.
+pub fn crc16(bytes: &[u8]) -> u16
+    ensures { λ r. ⌜ r ≡ crc16Of (now (bytes .entry)) ⌝ }
+{
+    let copy = steps16::whole();
+    crc16_in(&copy, bytes)
 }
 
 // One bit and one byte of CRC5, the most significant bit first. Both are for this width alone: with width and polynomial as

@@ -9,7 +9,7 @@ use Prim.Native.Nat.{ℕ}
 use lib.IntN.{ℤ}
 use Rattle.word.specs.declared.Repaired.{Repaired}
 use Rattle.word.specs.Repairs.{repairOf, syndromes}
-use Rattle.crc.specs.Crc.{crc13Of}
+use Rattle.crc.specs.Crc.{crc13Of, crc16Of}
 use Rattle.air.specs.Air.{firstNoBit}
 use Rattle.sign.specs.CallSigns.{signOf}
 use Rattle.sign.specs.Calls.{callOf, looksAt, faultAt, otherAt}
@@ -26,6 +26,9 @@ use Rattle.header.specs.Rules.{usualRules}
 use Rattle.header.specs.Reading.{signal, signed}
 use Rattle.header.specs.Patterns.{beside, headerRead}
 use Rattle.header.specs.Writing.{afterWrite, HeaderWritten}
+use Rattle.beesat.specs.declared.Read.{Read as FrameRead}
+use Rattle.beesat.specs.Reading.{readOf}
+use Rattle.beesat.specs.Writing.{afterField, FieldWritten}
 use Rattle.frame.specs.Frames.{frame, signedFrame, frameRead}
 use Rattle.sheet.specs.declared.Lane.{Lane}
 use Rattle.sheet.specs.declared.Display.{Display}
@@ -65,6 +68,9 @@ first-no-bit-one bytes r s = one
 
 pub crc13-one : (payload : List ℕ) (r s : ℕ) → r ≡ crc13Of payload → s ≡ crc13Of payload → r ≡ s
 crc13-one payload r s = one
+
+pub crc16-one : (bytes : List ℕ) (r s : ℕ) → r ≡ crc16Of bytes → s ≡ crc16Of bytes → r ≡ s
+crc16-one bytes r s = one
 
 pub worst-one : (patterns : List ℕ) (r s : ℕ) → r ≡ worstOf patterns → s ≡ worstOf patterns → r ≡ s
 worst-one patterns r s = one
@@ -183,3 +189,13 @@ next-record-one rest r s = one
 
 pub total-one : (tally : Tally) (r s : ℕ) → r ≡ totalOf tally → s ≡ totalOf tally → r ≡ s
 total-one tally r s = one
+
+pub beesat-read-frame-one : (frame : List ℕ) (r s : FrameRead) → r ≡ readOf frame → s ≡ readOf frame → r ≡ s
+beesat-read-frame-one frame r s = one
+
+-- the answer, and every byte of the frame afterwards
+pub write-field-one : (frame : List ℕ) (field value : ℕ) (r s : Written) (frame-r frame-s : List ℕ)
+    → FieldWritten field value frame r frame-r → FieldWritten field value frame s frame-s → (r ≡ s) × (frame-r ≡ frame-s)
+write-field-one frame field value r s frame-r frame-s a b =
+    let answers : r ≡ s = one (a .answered) (b .answered) in
+    (answers, a .bytes ∙ ap (λ (w : Written). afterField w field value frame) answers ∙ sym (b .bytes))

@@ -8,3 +8,5 @@ pub mod Catches
 pub mod Marked
 pub mod Determined
 pub mod CallSign
+pub mod Beesat
+pub mod PowerTable

@@ -1,7 +1,7 @@
 -- The program's turns: the buffers keep their lengths, and there is room to read on.
 -- Assumes nothing.
-use mathlib.Core.Path.{_≡_, refl, sym, _∙_}
-use mathlib.Core.Bool.{Bool, true, false, false≢true}
+use mathlib.Core.Path.{_≡_, refl, sym, ap, _∙_}
+use mathlib.Core.Bool.{Bool, true, false}
 use mathlib.Core.List.{List}
 use Prim.Native.Nat.{ℕ, _<_, _≤_}
 use native.Mathlib.Omega.{arith}
@@ -13,24 +13,15 @@ use Rattle.listing.specs.declared.Listed.{Listed}
 use Rattle.record.specs.Records.{recordSize}
 use Rattle.listing.specs.Promises.{Turns}
 use Rattle.listing.proofs.Keeping.{left-inside, left-short}
-use Rattle.list.specs.declared.Next.{Next}
-use Rattle.list.specs.declared.Next.the-variants.{More, Done, Failed}
+use Rattle.streams.specs.declared.Next.{Next}
+use Rattle.streams.specs.declared.Next.the-variants.{More, Done, Failed}
+use Rattle.streams.specs.Turns.{onwardOf}
+use Rattle.streams.proofs.Reading.{done-more, failed-more}
 use Rattle.list.specs.declared.State.{State}
-use Rattle.list.specs.Turns.{readOn, onwardOf, Turned}
-
-done-more : Done ≡ More → ⊥
-done-more e = let z : _≡_ {A = ℕ} 0 1 = cc in omega arith
-
-failed-more : Failed ≡ More → ⊥
-failed-more e = let z : _≡_ {A = ℕ} 0 1 = cc in omega arith
-
--- where the lines were written, the read decides
-pub read-decides : (read : Next) (over wrote : Bool) → wrote ≡ true → (r : Next) → r ≡ readOn read over → r ≡ onwardOf read over wrote
-read-decides read over true is r e = e
-read-decides read over false is r e = absurd (false≢true is)
+use Rattle.list.specs.Turns.{readOn, Turned}
 
 -- more is read only where the listing is not over
-more-open : (read : Next) (over wrote : Bool) → onwardOf read over wrote ≡ More → over ≡ false
+more-open : (read : Next) (over wrote : Bool) → onwardOf (readOn read over) wrote ≡ More → over ≡ false
 more-open read false wrote e = refl
 more-open read true false e = absurd (failed-more e)
 more-open More true true e = absurd (done-more e)
@@ -42,12 +33,12 @@ module _ (rules : Rules) (tally : Tally) (buf : List ℕ) (end : ℕ) (in-buf : 
   pub left-in-read : r .left ≤ end
   left-in-read = left-inside rules tally buf end in-buf out out′ r (so .listed)
 
-  pub turn-leaves : (front : ℕ) (read next : Next) (wrote : Bool) → next ≡ onwardOf read (r .over) wrote
+  pub turn-leaves : (front : ℕ) (read on next : Next) (wrote : Bool) → on ≡ readOn read (r .over) → next ≡ onwardOf on wrote
       → Turned buf (record { tally = r .tally; front = front; kept = r .left; next = next })
-  turn-leaves front read next wrote is =
+  turn-leaves front read on next wrote over is =
       record {
         inside = omega (arith, left-in-read);
-        short = λ e. left-short rules tally (take end buf) out 0 out′ r (so .listed) (more-open read (r .over) wrote (sym is ∙ e));
+        short = λ e. left-short rules tally (take end buf) out 0 out′ r (so .listed) (more-open read (r .over) wrote (sym (is ∙ ap (λ (n : Next). onwardOf n wrote) over) ∙ e));
       }
 
 -- what holds at each turn

@@ -7,8 +7,8 @@ use Prim.Native.Nat.{ℕ, _<_, _≤_}
 use lib.ListN.{length}
 use Rattle.air.specs.Air.{payloadLimit}
 use Rattle.record.specs.Records.{recordSize}
-use Rattle.list.specs.declared.Next.{Next}
-use Rattle.list.specs.declared.Next.the-variants.{More, Done, Failed}
+use Rattle.streams.specs.declared.Next.{Next}
+use Rattle.streams.specs.declared.Next.the-variants.{More, Done, Failed}
 use Rattle.list.specs.declared.State.{State}
 
 -- how to go on after a read: where the listing is over, nothing more is read
@@ -16,10 +16,6 @@ abbrev pub readOn : Next → Bool → Next
 readOn More over = cond over Done More
 readOn Done over = Done
 readOn Failed over = Failed
-
--- and after the write that follows it
-abbrev pub onwardOf : Next → Bool → Bool → Next
-onwardOf read over wrote = cond wrote (readOn read over) Failed
 
 -- what a turn keeps is within the buffer; where there is more to read, it is less than a record, so that the buffer has room
 pub record Turned (buf : List ℕ) (r : State) : Type 0 where

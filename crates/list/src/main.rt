@@ -6,10 +6,13 @@ use air::MOST_FLIPS;
 use base::Edition;
 use header::Rules;
 use libc::STDERR_FILENO;
-use libc::STDIN_FILENO;
-use libc::STDOUT_FILENO;
 use lines::Tally;
 use record::Cut;
+use streams::Filled;
+use streams::Next;
+use streams::after_write;
+use streams::read_on;
+use streams::write;
 use word::table::TABLE_ROWS;
 ghost use mathlib.Core.Path.{_≡_};
 ghost use Prim.Native.Nat.{_*_, _<_, _≤_};
@@ -19,23 +22,7 @@ ghost use Rattle.air.specs.Air.{payloadLimit};
 ghost use Rattle.record.specs.Records.{recordSize};
 ghost use Rattle.lines.specs.Rooms.{lineRoom};
 ghost use Rattle.listing.specs.Listing.{listedRules};
-ghost use Rattle.list.specs.Turns.{readOn, onwardOf, Turned};
-
-// How to go on.
-enum Next {
-    // There is more to read.
-    More,
-    // The input has ended, or what follows it changes nothing.
-    Done,
-    // A read or a write failed.
-    Failed,
-}
-
-// So many bytes are in the buffer.
-struct Filled {
-    end: usize,
-    next: Next,
-}
+ghost use Rattle.list.specs.Turns.{readOn, Turned};
 
 // What a turn leaves: the tally so far, the place in the input of the buffer's front, and how many bytes are kept there.
 struct State {
@@ -43,42 +30,6 @@ struct State {
     front: u64,
     kept: usize,
     next: Next,
-}
-
-// Reads once, after the bytes that were kept: a pass that is still on is listed as far as it has come. A failed read is told.
-fn read_on(buf: &mut [u8], kept: usize) -> Filled
-    requires { ⌜ kept < length (now buf) ⌝ }
-    ensures { λ r. ⌜ r .end ≤ length (now (buf .entry)) ⌝ }
-{
-    let part = &mut buf[kept..];
-    let got = libc::read(STDIN_FILENO, part);
-    if got < 0 {
-        os::fail(b"read");
-        return Filled {
-            end: kept,
-            next: Next::Failed,
-        };
-    }
-    let n = io::count(got, part);
-    if n == 0 {
-        return Filled {
-            end: kept,
-            next: Next::Done,
-        };
-    }
-    Filled {
-        end: kept + n,
-        next: Next::More,
-    }
-}
-
-// Writes a text, and answers whether that went well. A failed write is told.
-fn write(text: &[u8]) -> bool {
-    if io::write_all(STDOUT_FILENO, text) {
-        return true;
-    }
-    os::fail(b"write");
-    false
 }
 
 // How to go on after a read, where the listing may be over. A failed read stays one.
@@ -97,17 +48,7 @@ fn after_read(read: Next, over: bool) -> Next
     }
 }
 
-// And after the write that followed it.
-fn after_write(read: Next, over: bool, wrote: bool) -> Next
-    ensures { λ r. ⌜ r ≡ onwardOf read over wrote ⌝ }
-{
-    if wrote {
-        return after_read(read, over);
-    }
-    Next::Failed
-}
-
-// Scanned what was read, and writes the lines. A place past 2^64, which no input reaches, would wrap.
+// Lists what was read, and writes the lines. A place past 2^64, which no input reaches, would wrap.
 fn turn(
     table: &[u16; TABLE_ROWS],
     rules: Rules,
@@ -129,7 +70,7 @@ fn turn(
     let to = listed.to;
     let wrote = write(&out[..to]);
     let read = filled.next;
-    let next = after_write(read, listed.over, wrote);
+    let next = after_write(after_read(read, listed.over), wrote);
     let after = listed.tally;
     State {
         tally: after,

@@ -4,3 +4,4 @@ pub mod Laid
 pub mod Copying
 pub mod Counting
 pub mod Spelling
+pub mod Sizes

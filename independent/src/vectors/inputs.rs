@@ -4,7 +4,7 @@ use super::frame::{
     fresh_header, light_damage, put_edition, sized, widest, Frame, PayloadRule, BEYOND,
     PAYLOAD_ROOM,
 };
-use super::{sheets, shown, signs, stored, telling, Kind};
+use super::{beesat, sheets, shown, signs, stored, telling, Kind};
 use crate::air::{AIR_BITS, WORDS};
 use crate::header::{largest, Field, Header, GIVEN, HEADER_BITS, LONGEST_PAYLOAD, WIDTHS};
 use crate::page::ROWS;
@@ -47,7 +47,9 @@ pub(super) fn mixture(kind: Kind, seed: u64) -> Vec<Vec<u8>> {
         Kind::Wides => sheets::wide_inputs(rng),
         Kind::Signs => signs::inputs(rng),
         Kind::Calls => (0..=u8::MAX).map(|satellite| vec![satellite]).collect(),
-        Kind::Stored => stored::inputs(seed),
+        Kind::Beesat => beesat::frame_inputs(rng),
+        Kind::Fields => beesat::field_inputs(rng),
+        Kind::Stored | Kind::StoredBeesat => stored::inputs(kind, seed),
     }
 }
 

@@ -4,14 +4,14 @@ use std::fmt::{Display, Write};
 
 use super::bytes::Bytes;
 use super::replies::{AIR_ROOM, FIELD_BYTES, NAN_BITS, USER_ROOM};
-use super::Kind;
+use super::{beesat, Kind};
 use crate::air::WORDS;
 use crate::call_sign::CALL_SIGN_BITS;
 use crate::page::ROWS;
 use crate::rules::Edition;
 use crate::sheet::COUNTS;
 
-/// The line of a reply of any kind but `stored`, without its line feed.
+/// The line of a reply of any kind but the stored ones, without its line feed.
 pub(super) fn line(kind: Kind, reply: &[u8]) -> String {
     let mut reply = Bytes(reply);
     match kind {
@@ -31,18 +31,22 @@ pub(super) fn line(kind: Kind, reply: &[u8]) -> String {
         Kind::Sources => source_line(&mut reply),
         Kind::Wides => wide_line(&mut reply),
         Kind::Calls => digits_of(reply.take(CALL_SIGN_BITS), |bit| bit.to_string()),
-        Kind::Stored => unreachable!("a stored record has the kind of what it holds"),
+        Kind::Beesat => beesat::frame_line(&mut reply),
+        Kind::Fields => beesat::field_line(&mut reply),
+        Kind::Stored | Kind::StoredBeesat => {
+            unreachable!("a stored record has the kind of what it holds")
+        }
     }
 }
 
 /// Adds a space and a number.
-fn add(line: &mut String, number: impl Display) {
+pub(super) fn add(line: &mut String, number: impl Display) {
     // Writing to a string does not fail.
     let _ = write!(line, " {number}");
 }
 
 /// The refusal, or what stands in its place.
-fn answer_line(reply: &mut Bytes, told: impl FnOnce(&mut Bytes) -> String) -> String {
+pub(super) fn answer_line(reply: &mut Bytes, told: impl FnOnce(&mut Bytes) -> String) -> String {
     match (reply.u8(), reply.number(8)) {
         (0, _) => told(reply),
         (number, place) => format!("refused {number} {place}"),
@@ -84,7 +88,7 @@ fn heard_line(reply: &mut Bytes) -> String {
 }
 
 /// A writer's answer and all bytes of its output, each as `digits` tells.
-fn written_line(reply: &mut Bytes, most: usize, digits: fn(u8) -> String) -> String {
+pub(super) fn written_line(reply: &mut Bytes, most: usize, digits: fn(u8) -> String) -> String {
     let mut line = answer_line(reply, |_| String::from("written"));
     let bytes = digits_of(reply.sized(most), digits);
     add(&mut line, if bytes.is_empty() { "-" } else { &bytes });

@@ -1,9 +1,10 @@
 //! Vectors: inputs that a program in another language answers too, so that the two can be compared.
 //!
 //! Each kind has a stream of inputs, a reply to each input and a line for each reply. README.md tells
-//! their format; `inputs.rs`, `sheets.rs`, `shown.rs`, `signs.rs` and `telling` say which inputs there are. A seed (1
-//! where none is named) drives those that are left to chance.
+//! their format; `inputs.rs`, `sheets.rs`, `shown.rs`, `signs.rs`, `beesat.rs` and `telling` say which inputs there
+//! are. A seed (1 where none is named) drives those that are left to chance.
 
+mod beesat;
 mod bytes;
 mod compare;
 mod frame;
@@ -39,11 +40,14 @@ pub enum Kind {
     Wides,
     Signs,
     Calls,
+    Beesat,
+    Fields,
     Stored,
+    StoredBeesat,
 }
 
-/// All kinds with their names, in the order that numbers them in `stored`.
-pub const KINDS: [(&str, Kind); 16] = [
+/// All kinds with their names, in the order that numbers them in the stored streams.
+pub const KINDS: [(&str, Kind); 19] = [
     ("words", Kind::Words),
     ("encode", Kind::Encode),
     ("crc13", Kind::Crc13),
@@ -59,14 +63,17 @@ pub const KINDS: [(&str, Kind); 16] = [
     ("wides", Kind::Wides),
     ("signs", Kind::Signs),
     ("calls", Kind::Calls),
+    ("beesat", Kind::Beesat),
+    ("fields", Kind::Fields),
     ("stored", Kind::Stored),
+    ("stored-beesat", Kind::StoredBeesat),
 ];
 
 /// The seed where none is named.
 pub const DEFAULT_SEED: u64 = 1;
 
-/// The sizes of a record and of a reply, in the order of the kinds; a `stored` record has the sizes of what it holds.
-const SIZES: [(usize, usize); 15] = [
+/// The sizes of a record and of a reply, in the order of the kinds; a stored record has the sizes of what it holds.
+const SIZES: [(usize, usize); 17] = [
     (2, 12),
     (1, 3),
     (2_049, 4),
@@ -82,6 +89,8 @@ const SIZES: [(usize, usize); 15] = [
     (304, 153),
     (286, 60),
     (1, 48),
+    beesat::FRAME_SIZES,
+    beesat::FIELD_SIZES,
 ];
 
 impl Kind {
@@ -98,7 +107,12 @@ impl Kind {
         KINDS[self as usize].0
     }
 
-    /// The size of a reply of this kind, which is not `stored`.
+    /// Whether a record of this kind is one of another kind, behind the byte of that.
+    fn is_stored(self) -> bool {
+        matches!(self, Kind::Stored | Kind::StoredBeesat)
+    }
+
+    /// The size of a reply of this kind, which is not stored.
     fn reply_bytes(self) -> usize {
         SIZES[self as usize].1
     }
@@ -109,7 +123,7 @@ fn records(kind: Kind, stream: &[u8]) -> Option<Vec<(Kind, &[u8])>> {
     let mut records = Vec::new();
     let mut rest = stream;
     while !rest.is_empty() {
-        let kind = if kind == Kind::Stored {
+        let kind = if kind.is_stored() {
             let number = usize::from(rest[0]);
             rest = &rest[1..];
             KINDS.get(number)?.1

@@ -4,7 +4,7 @@ use super::bytes::{put, Bytes};
 use super::frame::{take_call, take_edition, take_rules, PayloadRule, HEADER_ROOM, PAYLOAD_ROOM};
 use super::inputs::PAGE_ROOM;
 use super::sheets::{put_counts, put_sheet, put_source, take_sheet, Wide};
-use super::Kind;
+use super::{beesat, Kind};
 use crate::air::AIR_BITS;
 use crate::call_sign::call_sign_bits;
 use crate::crc::crc13;
@@ -29,7 +29,7 @@ pub(super) const NAN_BITS: u64 = u64::MAX;
 /// The sizes of a header's fields in a reply, in the paper's order.
 pub(super) const FIELD_BYTES: [usize; FIELDS] = [1, 1, 1, 1, 1, 1, 1, 1, 1, 1, 1, 1, 1, 1, 2, 2, 1];
 
-/// The reply to an input of any kind but `stored`. Where a refusal has nothing to tell, zeros stand.
+/// The reply to an input of any kind but the stored ones. Where a refusal has nothing to tell, zeros stand.
 pub(super) fn reply(kind: Kind, input: &[u8]) -> Vec<u8> {
     let mut input = Bytes(input);
     let mut out = Vec::new();
@@ -85,7 +85,11 @@ pub(super) fn reply(kind: Kind, input: &[u8]) -> Vec<u8> {
             heard_reply(read_frame(rules, call, air, &payload(&mut input)), &mut out);
         }
         Kind::Calls => out.extend(call_sign_bits(input.u8().into())),
-        Kind::Stored => unreachable!("a stored record has the kind of what it holds"),
+        Kind::Beesat => beesat::frame_reply(&mut input, &mut out),
+        Kind::Fields => beesat::field_reply(&mut input, &mut out),
+        Kind::Stored | Kind::StoredBeesat => {
+            unreachable!("a stored record has the kind of what it holds")
+        }
     }
     out.resize(kind.reply_bytes(), 0);
     out
@@ -102,7 +106,7 @@ fn payload(input: &mut Bytes) -> Vec<u8> {
 }
 
 /// Puts number and place of a refusal, or zeros.
-fn put_answer(answer: Result<(), Refusal>, out: &mut Vec<u8>) {
+pub(super) fn put_answer(answer: Result<(), Refusal>, out: &mut Vec<u8>) {
     let (number, place) = match answer {
         Ok(()) => (0, 0),
         Err(refusal) => (refusal.number, refusal.place),

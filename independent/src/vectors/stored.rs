@@ -1,15 +1,15 @@
-//! The inputs of `stored`: a part of the inputs of every other kind.
+//! The inputs of `stored` and of `stored-beesat`: a part of the inputs of every other kind.
 //!
 //! One input in so many is taken, and besides those at a limit of their kind, those that are the first
 //! with their refusal and place, and all telling ones. So every refusal of the other streams is there,
-//! and the whole is small enough to be kept in a repository.
+//! and the whole is small enough to be kept in a repository. BEESAT-1 has a stream of its own.
 
 use std::collections::{BTreeMap, BTreeSet};
 
 use super::inputs::mixture;
 use super::lines::line;
 use super::replies::reply;
-use super::{shown, telling, Kind};
+use super::{beesat, shown, telling, Kind};
 use crate::header::LONGEST_PAYLOAD;
 
 /// How much of a kind is taken.
@@ -21,8 +21,8 @@ struct Share {
     places: usize,
 }
 
-/// The shares of the kinds, in the order that numbers them: all but `stored` itself.
-const SHARES: [(Kind, Share); 15] = [
+/// The shares of the kinds, in the order that numbers them: all but the stored ones themselves.
+const SHARES: [(Kind, Share); 17] = [
     (Kind::Words, one_of(1, 0)),
     (Kind::Encode, one_of(1, 0)),
     (Kind::Crc13, one_of(7, 0)),
@@ -38,16 +38,21 @@ const SHARES: [(Kind, Share); 15] = [
     (Kind::Wides, one_of(23, 8)),
     (Kind::Signs, one_of(29, 8)),
     (Kind::Calls, one_of(1, 0)),
+    (Kind::Beesat, one_of(13, 13)),
+    (Kind::Fields, one_of(23, 6)),
 ];
 
 const fn one_of(every: usize, places: usize) -> Share {
     Share { every, places }
 }
 
-/// The stored inputs, each behind the byte of its kind.
-pub(super) fn inputs(seed: u64) -> Vec<Vec<u8>> {
+/// The inputs of one of the two, each behind the byte of its kind.
+pub(super) fn inputs(stream: Kind, seed: u64) -> Vec<Vec<u8>> {
     let mut stored = Vec::new();
     for (number, (kind, share)) in (0..).zip(SHARES) {
+        if stream_of(kind) != stream {
+            continue;
+        }
         let mut inputs = taken(kind, share, mixture(kind, seed));
         inputs.extend(telling::inputs(kind, seed));
         for input in inputs {
@@ -55,6 +60,14 @@ pub(super) fn inputs(seed: u64) -> Vec<Vec<u8>> {
         }
     }
     stored
+}
+
+/// The stream that has the stored inputs of a kind.
+fn stream_of(kind: Kind) -> Kind {
+    match kind {
+        Kind::Beesat | Kind::Fields => Kind::StoredBeesat,
+        _ => Kind::Stored,
+    }
 }
 
 /// What is taken of the mixture of a kind, in its order.
@@ -109,6 +122,8 @@ fn is_limit(kind: Kind, input: &[u8]) -> bool {
         }
         Kind::Rows => [33, 34, 35].contains(&two(34)),
         Kind::Shown => shown::is_limit(input),
+        Kind::Beesat => beesat::is_idle(input),
+        Kind::Fields => beesat::is_limit(input),
         _ => false,
     }
 }

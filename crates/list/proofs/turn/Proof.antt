@@ -21,6 +21,9 @@ slice-aggregate-write c = search (needs, put-size)
 write-requires : tie.Need-write-requires
 write-requires c κs = search needs
 
+after-read-requires : tie.Need-after-read-requires
+after-read-requires c κs = search needs
+
 after-write-requires : tie.Need-after-write-requires
 after-write-requires c κs = search needs
 
@@ -45,6 +48,7 @@ turn-spec =
     slice-reshare-prefix-write
     slice-aggregate-write
     write-requires
+    after-read-requires
     after-write-requires
     wrapping-add-u64-requires
     same-length

@@ -1,0 +1,11 @@
+pub mod Soundness
+pub mod Judging
+pub mod Verdicts
+pub mod Parts
+pub mod Passed
+pub mod WriteChecks
+pub mod Writable
+pub mod Accepted
+pub mod Renewed
+pub mod Fields
+pub mod Rewritten

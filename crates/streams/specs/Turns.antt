@@ -1,0 +1,19 @@
+-- What a read leaves, and how a program goes on.
+-- Assumes nothing.
+use mathlib.Core.Path.{_≡_}
+use mathlib.Core.Bool.{Bool, cond}
+use mathlib.Core.List.{List}
+use Prim.Native.Nat.{ℕ, _<_, _≤_}
+use lib.ListN.{length}
+use Rattle.streams.specs.declared.Filled.{Filled}
+use Rattle.streams.specs.declared.Next.{Next}
+use Rattle.streams.specs.declared.Next.the-variants.{More, Failed}
+
+-- what is in the buffer is within it, and more than was kept where there is more to read
+pub record ReadOn (buf : List ℕ) (kept : ℕ) (r : Filled) : Type 0 where
+  pub inside : r .end ≤ length buf
+  pub grown : r .next ≡ More → kept < r .end
+
+-- how to go on after a read and the write that follows it
+abbrev pub onwardOf : Next → Bool → Next
+onwardOf read wrote = cond wrote read Failed

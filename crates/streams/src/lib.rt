@@ -1,0 +1,70 @@
+// Standard input read on into a buffer, and standard output written: what programs share. A failure is told on standard error.
+use libc::STDIN_FILENO;
+use libc::STDOUT_FILENO;
+ghost use mathlib.Core.Path.{_≡_};
+ghost use Prim.Native.Nat.{_<_};
+ghost use lib.ListN.{length};
+ghost use Rattle.streams.specs.Turns.{ReadOn, onwardOf};
+
+// How to go on.
+pub enum Next {
+    // There is more to read.
+    More,
+    // The input has ended.
+    Done,
+    // A read or a write failed.
+    Failed,
+}
+
+// So many bytes are in the buffer.
+pub struct Filled {
+    pub end: usize,
+    pub next: Next,
+}
+
+// Reads once, after the bytes that were kept: what is still coming is seen as far as it has come.
+pub fn read_on(buf: &mut [u8], kept: usize) -> Filled
+    requires { ⌜ kept < length (now buf) ⌝ }
+    ensures { λ r. ⌜ ReadOn (now (buf .entry)) kept r ⌝ }
+{
+    let part = &mut buf[kept..];
+    let got = libc::read(STDIN_FILENO, part);
+    if got < 0 {
+        os::fail(b"read");
+        return Filled {
+            end: kept,
+            next: Next::Failed,
+        };
+    }
+    let n = io::count(got, part);
+    if n == 0 {
+        return Filled {
+            end: kept,
+            next: Next::Done,
+        };
+    }
+    let end = kept + n;
+    Filled {
+        end,
+        next: Next::More,
+    }
+}
+
+// Writes all bytes, and answers whether that went well.
+pub fn write(bytes: &[u8]) -> bool {
+    if io::write_all(STDOUT_FILENO, bytes) {
+        return true;
+    }
+    os::fail(b"write");
+    false
+}
+
+// How to go on after a read and the write that followed it.
+pub fn after_write(read: Next, wrote: bool) -> Next
+    ensures { λ r. ⌜ r ≡ onwardOf read wrote ⌝ }
+{
+    if wrote {
+        return read;
+    }
+    Next::Failed
+}
