@@ -46,6 +46,14 @@ def list_command(words):
     return listing.list_all(listing.with_options(words_of("list"), options), files, "names" in options)
 
 
+def search_command(words):
+    import listing
+
+    options, files = taken(words, valued={"--edition": listing.EDITIONS})
+    name = listing.only(files)
+    return listing.list_all(listing.with_options(words_of("night"), options), [name], program="night")
+
+
 def beesat_command(words):
     import listing
 
@@ -83,6 +91,10 @@ def replay_command(words):
         options, rest = taken(words, flags=replay.BEESAT_FLAGS, valued=replay.BEESAT_VALUED)
         season = replay.frames_words(options, rest)
         return replay.replay(words_of("beesat_list"), independent_binary(), replay.frames(season), "beesat_list")
+    if replay.RECORDING in words:
+        options, rest = taken(words, flags=replay.RECORDING_FLAGS, valued=replay.RECORDING_VALUED)
+        season = replay.recording(options, rest)
+        return replay.replay(listing.with_options(words_of("night"), options), independent_binary(), season, "night")
     options, rest = taken(words, flags=replay.FLAGS, valued=replay.VALUED)
     season = replay.season_words(options, rest)
     run_list = listing.with_options(words_of("list"), options)
@@ -110,6 +122,7 @@ def help_command(words):
 
 COMMANDS = {
     "list": list_command,
+    "search": search_command,
     "beesat": beesat_command,
     "beesat-set": beesat_set_command,
     "explain": explain_command,

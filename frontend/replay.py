@@ -6,7 +6,7 @@ import os
 import re
 
 import leftovers
-from listing import EDITIONS, list_one
+from listing import EDITIONS, FLOWN, list_one
 from messages import DONE, FAILED, Failed, Unusable, say
 from options import whole_number
 from running import run
@@ -17,6 +17,11 @@ VALUED = {"--edition": EDITIONS, "--payload": (), "--cut": ("length", "lone", "h
 BEESAT = "--beesat"
 BEESAT_FLAGS = (BEESAT, "--clean")
 BEESAT_VALUED = {"--cut": ()}
+# a recording of bits, searched for headers
+RECORDING = "--recording"
+RECORDING_FLAGS = (RECORDING, "--bad")
+RECORDING_VALUED = {"--edition": EDITIONS, "--gap": ()}
+LONGEST_GAP = 60000
 LONGEST_PAYLOAD = 1023
 LONGEST_REST = 143
 FULL_SHEET = 65535
@@ -33,6 +38,17 @@ def records(words, edition):
 def frames(words):
     """A season of frames of BEESAT-1."""
     return Season(["beesat-season", *words], ["beesat"], "frames", int(words[1]))
+
+
+def recording(options, rest):
+    """A recording of bits, or what is wrong with its words."""
+    if len(rest) != 2:
+        raise Unusable("replay takes a seed and a number of bits")
+    words = [str(whole_number(word)) for word in rest]
+    if "gap" in options:
+        options = dict(options, gap=str(whole_number(options["gap"], LONGEST_GAP)))
+    made = with_options(["recording", *words], {name: options[name] for name in options if name in ("gap", "bad")})
+    return Season(made, ["search", "--edition", options.get("edition", FLOWN)], "bits", int(words[1]))
 
 
 def season_words(options, rest):
@@ -91,9 +107,9 @@ def compare(listed, expected, wanted, called="records"):
     with open(listed, errors="replace", encoding="ascii") as ours, open(expected, errors="replace", encoding="ascii") as theirs:
         for lines, (line, other) in enumerate(itertools.zip_longest(ours, theirs, fillvalue=""), 1):
             if line != other:
-                return differs(lines, line, other)
+                return differs(lines, line, other, "place" if called == "bits" else "record")
             last, cut = line, cut or line == "cut\n"
-    heard = int(re.match(r"heard (\d+) ", last)[1])
+    heard = int(re.match(r"(?:heard|bits) (\d+) ", last)[1])
     say(f"{heard} {called}, {lines} lines compared, no difference{what_was_left(heard, cut, wanted, called)}\n")
     return DONE
 
@@ -108,11 +124,11 @@ def what_was_left(heard, cut, wanted, called):
     return f"; a sheet takes {FULL_SHEET}{of_all}, and both cut the listing there"
 
 
-def differs(number, line, other):
+def differs(number, line, other, each):
     """Says where two listings differ first. A listing's first line is its title, so line 2 is that of record 0."""
-    record = other.partition(" ")[0]
+    opening = other.partition(" ")[0]
     say(
-        f"first difference in line {number}{f' (record {record})' if record.isdigit() else ''}\n"
+        f"first difference in line {number}{f' ({each} {opening})' if opening.isdigit() else ''}\n"
         f"  nolbreva:    {line.rstrip() or '(no line)'}\n"
         f"  independent: {other.rstrip() or '(no line)'}\n"
     )

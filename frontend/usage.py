@@ -4,6 +4,7 @@ ALL = """\
 usage: nolbreva COMMAND [OPTION ..] [WORD ..]
 
   list [FILE ..]                the listing of standard input, or of each file
+  search [FILE]                 the headers in a recording of bits, one a byte: standard input, or a file
   beesat [FILE]                 a line for each BEESAT-1 frame of standard input, or of a file
   beesat-set FIELD VALUE [FILE] the BEESAT-1 frame on standard input, or in a file, with one field written
   explain [NUMBER [PLACE]]      what a refusal means
@@ -25,6 +26,15 @@ The listing of standard input, or one listing for each file in turn; the file - 
   --edition E    reads all frames under this edition: flown (S-NET; so where none is named) or corrected (SALSAT)
   --names        puts the line '==> NAME <==' before each listing
   --strict       where a listing ends with `cut`, tells at which byte and why, and ends with status 1
+""",
+    "search": """\
+usage: nolbreva search [--edition E] [--] [FILE]
+
+The headers in a recording of bits, one a byte, each 0 or 1: standard input, the file, or the file -, which is standard input.
+A line for each place where the marker 0x20F3FA13 is followed by 210 more bits, as they come, and the counts. Where a byte is
+above 1, or after 4294967295 bits, `stopped NUMBER INDEX` stands before the last line, and nothing more is read.
+
+  --edition E    reads all headers under this edition: flown (S-NET; so where none is named) or corrected (SALSAT)
 """,
     "beesat": """\
 usage: nolbreva beesat [--] [FILE]
@@ -48,6 +58,7 @@ place, what its place is; without a number, all of docs/REFUSALS.md's table.
 """,
     "replay": """\
 usage: nolbreva replay [--edition E] SEED N [OPTION ..]
+       nolbreva replay --recording SEED N [--edition E] [--gap G] [--bad]
        nolbreva replay --beesat SEED N [--clean] [--cut L]
 
 Makes a season of N records by chance, the same for the same words, lists it by this program and by the independent one,
@@ -59,6 +70,8 @@ and compares every line. Status 1 where they differ.
   --full          65536 short records in place of N: they fill a sheet, and the last one cuts
   --full-exact    65535 short records in place of N
   --cut KIND      then a rest that is no whole record: length, lone, header or payload (independent/README.md)
+  --recording     a recording of N bits, searched, in place of records; --gap G: at most G bits of noise between markers and
+                  headers, 0 to 60000; --bad: then a byte above 1, and more bits
   --beesat        N frames of BEESAT-1 in place of records; --clean: only frames that read well; --cut L: then L bytes, 0 to 143
 """,
     "bench": """\

@@ -61,7 +61,7 @@ class Table(unittest.TestCase):
     def test_explanations(self):
         self.assertEqual(refusals.explain(self.rows, 5, 97), "5 97: SrcId is 97, and S-NET has the sources 0 to 7\n")
         self.assertEqual(refusals.explain(self.rows).count("\n"), len(self.rows))
-        for number, place in ((0, None), (19, 1), (5, 7)):
+        for number, place in ((0, None), (99, 1), (5, 7)):
             with self.assertRaises(Unusable):
                 refusals.explain(self.rows, number, place)
 

@@ -1,8 +1,8 @@
-//! S-NET and SALSAT air headers, power pages and the pass sheet; BEESAT-1 frames.
+//! S-NET and SALSAT air headers, power pages and the pass sheet; headers in recordings; BEESAT-1 frames.
 //!
-//! A second implementation of paper 01 and of requests b, d to h, m and n of paper 02, written from the papers
-//! alone, so that two programs that share no thought can be compared line by line. It prefers the plain
-//! way over the quick one: words are repaired by trying all 32 valid words, checksums run bit by bit.
+//! A second implementation of paper 01 and of requests a, b, d to h, m and n of paper 02, written from the
+//! papers alone, so that two programs that share no thought can be compared line by line. It prefers the
+//! plain way over the quick one: words are repaired by trying all 32 valid words, checksums run bit by bit.
 //!
 //! | module | part of the papers |
 //! |---|---|
@@ -19,9 +19,11 @@
 //! | [`sheet`] | the pass sheet (17, 22), what it counts, its lanes |
 //! | [`listing`] | the listing |
 //! | [`catches`] | what CRC5 alone catches |
+//! | [`window`], [`search`] | a header behind its marker (21, editions), headers in a recording (19, 37) |
 //! | [`beesat`] | BEESAT-1 frames read (25 to 28), one field written (38, 29), their listing |
 //!
-//! [`pieces`] takes input as it comes. The rest makes material to compare with: [`rng`], [`sample`], [`season`], [`example`], [`vectors`].
+//! [`pieces`] takes input as it comes. The rest makes material to compare with: [`rng`], [`sample`], [`season`], [`recording`],
+//! [`example`], [`vectors`].
 
 pub mod air;
 pub mod beesat;
@@ -34,12 +36,15 @@ pub mod header;
 pub mod listing;
 pub mod page;
 pub mod pieces;
+pub mod recording;
 pub mod refusal;
 pub mod rng;
 pub mod rules;
 pub mod sample;
+pub mod search;
 pub mod season;
 pub mod sheet;
 pub mod shown;
 pub mod vectors;
+pub mod window;
 pub mod word;

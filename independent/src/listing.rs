@@ -100,10 +100,12 @@ fn list_record(
     Ok(true)
 }
 
-/// Who sent a frame, as the listing writes it.
-struct Sender {
-    edition: Edition,
-    src_id: u16,
+/// Who sent a frame, as a line writes it.
+pub struct Sender {
+    /// The edition that the frame was read under.
+    pub edition: Edition,
+    /// Its SrcId, at most 7 under the flown edition.
+    pub src_id: u16,
 }
 
 /// A corrected frame "is given to no S-NET satellite: the listing writes `source 97` where it wrote `B radio 2`".

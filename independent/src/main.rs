@@ -13,7 +13,9 @@ use independent::catches::write_catches;
 use independent::example::write_example;
 use independent::header::LONGEST_PAYLOAD;
 use independent::listing::{list, Failure};
+use independent::recording::{self, write_recording};
 use independent::rules::Edition;
+use independent::search::search;
 use independent::season::{write_season, Cut, Full, Options};
 use independent::vectors::{self, compare, write_inputs, write_lines, write_replies, KINDS};
 
@@ -36,6 +38,13 @@ usage: independent COMMAND ..
                              payload  a record that ends in its payload
   example                  the records of a small example pass
   catches                  which changes of a header CRC5 does not see, and what CRC13 does not
+  search [--edition E] [FILE]
+                           the headers in a recording of bits, one a byte: the file, or standard
+                           input (-)
+  recording SEED N [OPTION ..]
+                           a recording of N bits by chance
+      --gap G              at most G bits of noise between markers and headers, 0 to 60000
+      --bad                then a byte above 1, and more bits
   beesat [FILE]            a line for each BEESAT-1 frame of the file, or of standard input (-)
   beesat-set FIELD VALUE [FILE]
                            the frame with one field written; FIELD and VALUE are decimal digits
@@ -122,6 +131,8 @@ fn run(arguments: &[OsString], out: &mut Output) -> Result<bool, Stop> {
             no_more(rest)?;
             write_catches(out)
         }
+        Some("search") => return search_one(rest, out),
+        Some("recording") => write_recording(&recording_options(rest)?, out),
         Some("beesat") => {
             let (mut input, name) = input_of(rest)?;
             return listed(list_frames(&mut input, out), &name);
@@ -216,6 +227,42 @@ fn input_of(arguments: &[OsString]) -> Result<(Box<dyn Read>, String), Stop> {
         Ok(input) => Ok((Box::new(input), name)),
         Err(error) => Err(Stop::Failed { what: name, error }),
     }
+}
+
+/// Searches a recording; false where it could not be read to its end.
+fn search_one(arguments: &[OsString], out: &mut Output) -> Result<bool, Stop> {
+    let mut named = Edition::Flown;
+    let mut files = Vec::new();
+    let mut rest = arguments.iter();
+    while let Some(argument) = rest.next() {
+        if argument == "--edition" {
+            named = edition(rest.next())?;
+        } else {
+            files.push(argument.clone());
+        }
+    }
+    let (mut input, name) = input_of(&files)?;
+    listed(search(named, &mut input, out), &name)
+}
+
+fn recording_options(arguments: &[OsString]) -> Result<recording::Options, Stop> {
+    let mut rest = arguments.iter();
+    let mut options = recording::Options {
+        seed: number(rest.next(), "SEED", u64::MAX)?,
+        bits: number(rest.next(), "N", u64::MAX)?,
+        gap: recording::USUAL_GAP,
+        bad: false,
+    };
+    while let Some(option) = rest.next() {
+        match option.to_str() {
+            Some("--gap") => {
+                options.gap = number(rest.next(), "G", recording::LARGEST_GAP.into())? as u32;
+            }
+            Some("--bad") => options.bad = true,
+            _ => return Err(Stop::Usage(format!("no option {}", quoted(option)))),
+        }
+    }
+    Ok(options)
 }
 
 /// Writes one field of a BEESAT-1 frame; false where it was refused.

@@ -9,7 +9,8 @@ use native.Mathlib.Nat.{lt-of-le-of-lt}
 use native.Mathlib.Omega.{arith}
 use lib.Bits.{bitOr, or-add-and, and-le-l, and-le-r}
 use lib.Dec.{ltb, lit<}
-use lib.ListN.{length, getD, List·getD-eq-default}
+use lib.ListN.{length, getD, take, List·getD-eq-default}
+use lib.Seq.{getD-take, length-take-le}
 use borrow.Author.Tests.{lt-ltb, le-ltb, ltb-false}
 use Rattle.base.specs.Lists.{AreBits}
 use Rattle.base.proofs.Tests.{lt-or-ge}
@@ -55,6 +56,16 @@ are-bits l e k =
     (λ (h : k < length l). suc-le-suc (ltb-false 1 (getD l k 0) ((rw e at (lowest-is (noBit l) (length l) .before)) k h)))
     (λ (h : length l ≤ k). rw (List·getD-eq-default l 0 {n = k} h) (lit< tt))
     (lt-or-ge k (length l))
+
+-- those before the search's answer are bits
+pub bits-before : (l : List ℕ) → AreBits (take (firstNoBit l) l)
+unfolding firstNoBit
+bits-before l k =
+    ⊎-elim
+    (λ (h : k < firstNoBit l). rw (getD-take (firstNoBit l) l k 0 h) (suc-le-suc (ltb-false 1 (getD l k 0) (lowest-is (noBit l) (length l) .before k h))))
+    (λ (h : firstNoBit l ≤ k).
+    rw (List·getD-eq-default (take (firstNoBit l) l) 0 {n = k} (rw (length-take-le (firstNoBit l) l (no-bit-le l)) h)) (lit< tt))
+    (lt-or-ge k (firstNoBit l))
 
 -- a union is at least each of its parts
 or-right : (a b : ℕ) → b ≤ bitOr a b

@@ -88,6 +88,12 @@ pub const SHEET_FULL: u8 = 17;
 // "page writer's output under 34"
 pub const SHORT_PAGE_OUTPUT: u8 = 18;
 
+// Recording: "an element above 1 in a piece"
+pub const NO_BIT_IN_PIECE: u8 = 19;
+
+// "a piece that would take the recording past 4,294,967,295 bits"
+pub const LONG_RECORDING: u8 = 37;
+
 // BEESAT-1: "not 144 bytes"
 pub const NOT_144_BYTES: u8 = 25;
 

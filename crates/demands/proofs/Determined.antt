@@ -49,6 +49,14 @@ use Rattle.page.specs.declared.scaling.ShownAnswer.{ShownAnswer}
 use Rattle.page.specs.Rows.{PageWritten}
 use Rattle.page.specs.Payload.{pageOf}
 use Rattle.page.specs.Shown.{scalingOf, shownOf}
+use denote.Ref.{RefT, now}
+use Rattle.marks.specs.declared.State.{State}
+use Rattle.marks.specs.declared.Mark.{Mark}
+use Rattle.marks.specs.declared.Step.{Step}
+use Rattle.marks.specs.declared.Taken.{Taken}
+use Rattle.marks.specs.declared.Reader.{Reader}
+use Rattle.marks.specs.Pieces.{freshState, takenOf, stepOf, readerAt}
+use Rattle.search.specs.Reports.{markRead}
 
 -- a contract of the form `r ≡ d` allows one answer
 one : {A : Type 0} {r s d : A} → r ≡ d → s ≡ d → r ≡ s
@@ -199,3 +207,28 @@ pub write-field-one : (frame : List ℕ) (field value : ℕ) (r s : Written) (fr
 write-field-one frame field value r s frame-r frame-s a b =
     let answers : r ≡ s = one (a .answered) (b .answered) in
     (answers, a .bytes ∙ ap (λ (w : Written). afterField w field value frame) answers ∙ sym (b .bytes))
+
+-- a recording in pieces
+pub fresh-one : (r s : State) → r ≡ freshState → s ≡ freshState → r ≡ s
+fresh-one r s = one
+
+pub take-one : (state : State) (piece : List ℕ) (r s : Taken) → r ≡ takenOf state piece → s ≡ takenOf state piece → r ≡ s
+take-one state piece r s = one
+
+pub find-one : (state : State) (piece : List ℕ) (at : ℕ) (r s : Step) → r ≡ stepOf state piece at → s ≡ stepOf state piece at → r ≡ s
+find-one state piece at r s = one
+
+pub new-one : (piece : RefT (List ℕ)) (r s : Reader) → r ≡ readerAt piece 0 → s ≡ readerAt piece 0 → r ≡ s
+new-one piece r s = one
+
+pub moved-one : (reader : Reader) (at : ℕ) (r s : Reader) → r ≡ readerAt (reader .piece) at → s ≡ readerAt (reader .piece) at → r ≡ s
+moved-one reader at r s = one
+
+pub marks-next-one : (reader : Reader) (state : State) (r s : Step) → r ≡ stepOf state (now (reader .piece)) (reader .at) → s ≡ stepOf state (now (reader .piece)) (reader .at) → r ≡ s
+marks-next-one reader state r s = one
+
+pub close-one : (reader : Reader) (state : State) (r s : Taken) → r ≡ takenOf state (now (reader .piece)) → s ≡ takenOf state (now (reader .piece)) → r ≡ s
+close-one reader state r s = one
+
+pub read-mark-one : (edition : Edition) (mark : Mark) (r s : Read) → r ≡ markRead edition mark → s ≡ markRead edition mark → r ≡ s
+read-mark-one edition mark r s = one

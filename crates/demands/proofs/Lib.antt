@@ -6,6 +6,7 @@ pub mod LongBurst
 pub mod Editions
 pub mod Catches
 pub mod Marked
+pub mod Recording
 pub mod Determined
 pub mod CallSign
 pub mod Beesat

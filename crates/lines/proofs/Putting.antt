@@ -16,7 +16,7 @@ use Rattle.header.specs.declared.Answer.the-variants.{Accepted, Refused}
 use Rattle.header.specs.Fields.{radioOf}
 use Rattle.lines.specs.declared.Tally.{Tally}
 use Rattle.lines.specs.Tallies.{totalOf}
-use Rattle.lines.specs.Lines.{fieldOf, title, letterOf, speakerOf, acceptedLine, refusedLine, lineOf, lastLine, cutLine, closingOf, openingOf, damageOf}
+use Rattle.lines.specs.Lines.{fieldOf, title, letterOf, speakerOf, acceptedLine, refusedLine, lineOf, countsOf, lastLine, cutLine, closingOf, openingOf, damageOf}
 
 module _ {l m : List ℕ} {at next : ℕ} where
   -- the first line
@@ -26,7 +26,7 @@ module _ {l m : List ℕ} {at next : ℕ} where
 
   -- the line of an accepted record, and of a refused one
   pub line-accepted : (edition : Edition) (k bytes : ℕ) (r : Read) (h : Header) (flips worst : ℕ) → r .answer ≡ Accepted h flips → worst ≡ worstOf (r .patterns)
-      → Put l at (acceptedLine edition k (h .«fields» .«src_id») (h .«fields» .«fr_cnt_tx») flips worst bytes) m next → Put l at (lineOf edition k bytes r) m next
+      → Put l at (acceptedLine edition k (h .«fields» .«src_id») (h .«fields» .«fr_cnt_tx») flips worst (ascii " bytes ") bytes) m next → Put l at (lineOf edition k bytes r) m next
   line-accepted edition k bytes r h flips worst e found put = rw (e, ← found) put
 
   pub line-refused : (edition : Edition) (k bytes : ℕ) (r : Read) (why : Refusal) → r .answer ≡ Refused why → Put l at (refusedLine k why) m next → Put l at (lineOf edition k bytes r) m next
@@ -56,12 +56,16 @@ pub put-speaker : {l m : List ℕ} {at p : ℕ} (edition known : Edition) (srcId
 put-speaker edition known srcId is put = rw is put
 
 -- the line of an accepted record
-pub put-accepted : {l m n o : List ℕ} {at p q r : ℕ} (edition : Edition) (k srcId tx flips worst bytes : ℕ) → Put l at (openingOf edition k srcId) m p → Put m p (ascii " tx ") n q
-    → Put n q (damageOf tx flips worst bytes) o r → Put l at (acceptedLine edition k srcId tx flips worst bytes) o r
-put-accepted edition k srcId tx flips worst bytes first second third = put-three first second third
+pub put-accepted : {l m n o : List ℕ} {at p q r : ℕ} (edition : Edition) (k srcId tx flips worst : ℕ) (name : List ℕ) (number : ℕ)
+    → Put l at (openingOf edition k srcId) m p → Put m p (ascii " tx ") n q → Put n q (damageOf tx flips worst name number) o r
+    → Put l at (acceptedLine edition k srcId tx flips worst name number) o r
+put-accepted edition k srcId tx flips worst name number first second third = put-three first second third
 
 -- the parts of the last line
-pub put-last : {l m n : List ℕ} {at p q : ℕ} (tally : Tally) (heard : ℕ) → heard ≡ totalOf tally
-    → Put l at (ascii "heard ") m p → Put m p (fieldOf heard " accepted " ++ fieldOf (tally .accepted) " refused " ++ fieldOf (tally .refused) "\n") n q → Put l at (lastLine tally) n q
+pub put-counts : {l m : List ℕ} {at p : ℕ} (tally : Tally) (heard : ℕ) → heard ≡ totalOf tally
+    → Put l at (fieldOf heard " accepted " ++ fieldOf (tally .accepted) " refused " ++ fieldOf (tally .refused) "\n") m p → Put l at (countsOf tally) m p
+put-counts tally heard is put = rw (← is) put
+
+pub put-last : {l m n : List ℕ} {at p q : ℕ} (tally : Tally) → Put l at (ascii "heard ") m p → Put m p (countsOf tally) n q → Put l at (lastLine tally) n q
 unfolding lastLine
-put-last tally heard is first second = rw (← is) (put-then first second)
+put-last tally first second = put-then first second

@@ -1,3 +1,4 @@
 pub mod Tallies
 pub mod Lines
 pub mod Rooms
+pub mod Recordings

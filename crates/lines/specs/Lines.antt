@@ -33,15 +33,15 @@ unfoldable pub speakerOf : Edition → ℕ → List ℕ
 speakerOf Flown srcId = (letterOf srcId ∷ []) ++ ascii " radio " ++ decimalOf (radioOf srcId)
 speakerOf Corrected srcId = ascii "source " ++ decimalOf srcId
 
--- `3 accepted B radio 2 tx 5 repaired 7 worst 4 bytes 42`
+-- `3 accepted B radio 2 tx 5 repaired 7 worst 4 bytes 42`, or another word before the last number
 abbrev pub openingOf : Edition → ℕ → ℕ → List ℕ
 openingOf edition k srcId = fieldOf k " accepted " ++ speakerOf edition srcId
 
-abbrev pub damageOf : ℕ → ℕ → ℕ → ℕ → List ℕ
-damageOf tx flips worst bytes = fieldOf tx " repaired " ++ fieldOf flips " worst " ++ fieldOf worst " bytes " ++ fieldOf bytes "\n"
+abbrev pub damageOf : ℕ → ℕ → ℕ → List ℕ → ℕ → List ℕ
+damageOf tx flips worst word n = fieldOf tx " repaired " ++ fieldOf flips " worst " ++ (decimalOf worst ++ word) ++ fieldOf n "\n"
 
-abbrev pub acceptedLine : Edition → ℕ → ℕ → ℕ → ℕ → ℕ → ℕ → List ℕ
-acceptedLine edition k srcId tx flips worst bytes = openingOf edition k srcId ++ ascii " tx " ++ damageOf tx flips worst bytes
+abbrev pub acceptedLine : Edition → ℕ → ℕ → ℕ → ℕ → ℕ → List ℕ → ℕ → List ℕ
+acceptedLine edition k srcId tx flips worst word n = openingOf edition k srcId ++ ascii " tx " ++ damageOf tx flips worst word n
 
 -- `0 refused 4 6`: "a refused one gives the refusal and its place"
 abbrev pub refusedLine : ℕ → Refusal → List ℕ
@@ -49,15 +49,19 @@ refusedLine k why = fieldOf k " refused " ++ fieldOf (why .number) " " ++ fieldO
 
 -- the line of record k with so many payload bytes: "Each record's line opens with its number, from 0"
 abbrev pub lineFor : Edition → ℕ → ℕ → List ℕ → Answer → List ℕ
-lineFor edition k bytes patterns (Accepted h flips) = acceptedLine edition k (h .«fields» .«src_id») (h .«fields» .«fr_cnt_tx») flips (worstOf patterns) bytes
+lineFor edition k bytes patterns (Accepted h flips) = acceptedLine edition k (h .«fields» .«src_id») (h .«fields» .«fr_cnt_tx») flips (worstOf patterns) (ascii " bytes ") bytes
 lineFor edition k bytes patterns (Refused why) = refusedLine k why
 
 abbrev pub lineOf : Edition → ℕ → ℕ → Read → List ℕ
 lineOf edition k bytes read = lineFor edition k bytes (read .patterns) (read .answer)
 
+-- the end of a last line: all, and of these the accepted and the refused
+abbrev pub countsOf : Tally → List ℕ
+countsOf tally = fieldOf (totalOf tally) " accepted " ++ fieldOf (tally .accepted) " refused " ++ fieldOf (tally .refused) "\n"
+
 -- `heard 1 accepted 0 refused 1`
 unfoldable pub lastLine : Tally → List ℕ
-lastLine tally = ascii "heard " ++ fieldOf (totalOf tally) " accepted " ++ fieldOf (tally .accepted) " refused " ++ fieldOf (tally .refused) "\n"
+lastLine tally = ascii "heard " ++ countsOf tally
 
 -- "prints `cut`, then the last line with the counts so far"
 unfoldable pub cutLine : List ℕ

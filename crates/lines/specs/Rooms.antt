@@ -11,10 +11,18 @@ speakerRoom = mostDigits + 8
 abbrev pub openingRoom : ℕ
 openingRoom = mostDigits + 10 + speakerRoom
 
--- the end of that line: four numbers and 25 others
-abbrev pub damageRoom : ℕ
-damageRoom = 4 * mostDigits + 25
+-- the name of its last number
+abbrev pub nameRoom : ℕ
+nameRoom = 8
 
--- a line: six numbers and 47 others. So a line is shorter than its record.
+-- the end of that line: four numbers, this name and 18 others
+abbrev pub damageRoom : ℕ
+damageRoom = 4 * mostDigits + nameRoom + 18
+
+-- a line: six numbers and 48 others. So a line is shorter than its record.
 abbrev pub lineRoom : ℕ
-lineRoom = 6 * mostDigits + 47
+lineRoom = 6 * mostDigits + 48
+
+-- the end of a last line: three numbers and 20 others
+abbrev pub countsRoom : ℕ
+countsRoom = 3 * mostDigits + 20

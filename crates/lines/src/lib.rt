@@ -1,17 +1,22 @@
 // The text of every line, put into a lent slice at a place. Each function answers the place after what it put.
+mod recording;
+
 use base::Edition;
 use base::Refusal;
 use header::Answer;
 use header::Read;
+pub use recording::put_ending;
+pub use recording::put_heading;
+pub use recording::put_report;
 ghost use mathlib.Core.Path.{_≡_};
 ghost use mathlib.Core.List.{_++_};
-ghost use Prim.Native.Nat.{_+_, _*_, _≤_};
+ghost use Prim.Native.Nat.{_+_, _*_, _<_, _≤_};
 ghost use lib.ListN.{length};
 ghost use Rattle.text.specs.Text.{decimalOf, mostDigits, Put};
 ghost use Rattle.header.specs.Fields.{radioOf};
-ghost use Rattle.lines.specs.Tallies.{totalOf};
-ghost use Rattle.lines.specs.Lines.{title, letterOf, speakerOf, openingOf, damageOf, acceptedLine, refusedLine, lineOf, lastLine, closingOf};
-ghost use Rattle.lines.specs.Rooms.{speakerRoom, openingRoom, damageRoom, lineRoom};
+ghost use Rattle.lines.specs.Tallies.{mostCounted, totalOf, tallyAfter};
+ghost use Rattle.lines.specs.Lines.{title, letterOf, speakerOf, openingOf, damageOf, acceptedLine, refusedLine, lineOf, countsOf, lastLine, closingOf};
+ghost use Rattle.lines.specs.Rooms.{speakerRoom, openingRoom, nameRoom, damageRoom, countsRoom, lineRoom};
 
 // How many records were accepted so far, and how many refused.
 pub struct Tally {
@@ -19,11 +24,40 @@ pub struct Tally {
     pub refused: u32,
 }
 
+// Why a search stopped before the end of its input, if it did.
+pub enum Stop {
+    Nowhere,
+    Stopped(Refusal),
+}
+
 // All of them: what the last line says was heard.
 pub fn total(tally: Tally) -> u64
     ensures { λ r. ⌜ r ≡ totalOf tally ⌝ }
 {
     tally.accepted as u64 + tally.refused as u64
+}
+
+// A tally after an answer.
+pub fn count(tally: Tally, answer: Answer) -> Tally
+    requires { ⌜ totalOf tally < mostCounted ⌝ }
+    ensures { λ r. ⌜ r ≡ tallyAfter tally answer ⌝ }
+{
+    match answer {
+        Answer::Accepted { header, flips } => {
+            let accepted = tally.accepted + 1;
+            Tally {
+                accepted,
+                refused: tally.refused,
+            }
+        }
+        Answer::Refused(why) => {
+            let refused = tally.refused + 1;
+            Tally {
+                accepted: tally.accepted,
+                refused,
+            }
+        }
+    }
 }
 
 // Puts three numbers, each with a text after it.
@@ -103,10 +137,19 @@ fn put_opening(out: &mut [u8], at: usize, edition: Edition, k: u64, src_id: u8) 
     put_speaker(out, a, edition, src_id)
 }
 
-// Puts the rest of it: the counter, the flips, the word with the most of them, and the payload's length.
-fn put_damage(out: &mut [u8], at: usize, tx: u8, flips: u32, worst: usize, bytes: usize) -> usize
+// Puts the rest of it: the counter, the flips, the word with the most of them, and a number that is named.
+fn put_damage(
+    out: &mut [u8],
+    at: usize,
+    tx: u8,
+    flips: u32,
+    worst: usize,
+    name: &[u8],
+    n: usize,
+) -> usize
     requires { ⌜ at + damageRoom ≤ length (now out) ⌝ }
-    ensures { λ r. ⌜ Put (now (out .entry)) at (damageOf tx flips worst bytes) (now (out .exit)) r ⌝ }
+    requires { ⌜ length (now name) ≤ nameRoom ⌝ }
+    ensures { λ r. ⌜ Put (now (out .entry)) at (damageOf tx flips worst (now (name .entry)) n) (now (out .exit)) r ⌝ }
     ensures { λ r. ⌜ r ≤ at + damageRoom ⌝ }
 {
     let a = put_three(
@@ -117,9 +160,9 @@ fn put_damage(out: &mut [u8], at: usize, tx: u8, flips: u32, worst: usize, bytes
         flips as u64,
         b" worst ",
         worst as u64,
-        b" bytes ",
+        name,
     );
-    text::put_field(out, a, bytes as u64, b"\n")
+    text::put_field(out, a, n as u64, b"\n")
 }
 
 fn put_accepted(
@@ -131,15 +174,17 @@ fn put_accepted(
     tx: u8,
     flips: u32,
     worst: usize,
-    bytes: usize,
+    name: &[u8],
+    n: usize,
 ) -> usize
     requires { ⌜ at + lineRoom ≤ length (now out) ⌝ }
-    ensures { λ r. ⌜ Put (now (out .entry)) at (acceptedLine edition k «src_id» tx flips worst bytes) (now (out .exit)) r ⌝ }
+    requires { ⌜ length (now name) ≤ nameRoom ⌝ }
+    ensures { λ r. ⌜ Put (now (out .entry)) at (acceptedLine edition k «src_id» tx flips worst (now (name .entry)) n) (now (out .exit)) r ⌝ }
     ensures { λ r. ⌜ r ≤ at + lineRoom ⌝ }
 {
     let a = put_opening(out, at, edition, k, src_id);
     let b = text::put_text(out, a, b" tx ");
-    put_damage(out, b, tx, flips, worst, bytes)
+    put_damage(out, b, tx, flips, worst, name, n)
 }
 
 fn put_refused(out: &mut [u8], at: usize, k: u64, why: Refusal) -> usize
@@ -184,6 +229,7 @@ pub fn put_line(
             header.fields.fr_cnt_tx,
             flips,
             air::worst(patterns),
+            b" bytes ",
             bytes,
         ),
         Answer::Refused(why) => put_refused(out, at, k, why),
@@ -199,14 +245,14 @@ pub fn put_title(out: &mut [u8]) -> usize
     text::put_text(out, 0, b"pass sheet\n")
 }
 
-fn put_last(out: &mut [u8], at: usize, tally: Tally) -> usize
-    requires { ⌜ at + lineRoom ≤ length (now out) ⌝ }
-    ensures { λ r. ⌜ Put (now (out .entry)) at (lastLine tally) (now (out .exit)) r ⌝ }
+// Puts the end of a last line: all that was heard, and of these the accepted and the refused.
+fn put_counts(out: &mut [u8], at: usize, tally: Tally) -> usize
+    requires { ⌜ at + countsRoom ≤ length (now out) ⌝ }
+    ensures { λ r. ⌜ Put (now (out .entry)) at (countsOf tally) (now (out .exit)) r ⌝ }
 {
-    let a = text::put_text(out, at, b"heard ");
     put_three(
         out,
-        a,
+        at,
         total(tally),
         b" accepted ",
         tally.accepted as u64,
@@ -214,6 +260,14 @@ fn put_last(out: &mut [u8], at: usize, tally: Tally) -> usize
         tally.refused as u64,
         b"\n",
     )
+}
+
+fn put_last(out: &mut [u8], at: usize, tally: Tally) -> usize
+    requires { ⌜ at + lineRoom ≤ length (now out) ⌝ }
+    ensures { λ r. ⌜ Put (now (out .entry)) at (lastLine tally) (now (out .exit)) r ⌝ }
+{
+    let a = text::put_text(out, at, b"heard ");
+    put_counts(out, a, tally)
 }
 
 // Puts the last line, after `cut` where the input was cut.

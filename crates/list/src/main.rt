@@ -1,7 +1,5 @@
 // Lists the records on standard input, after each read. It moves bytes and does nothing else: the text is `listing`'s. The words after
-// its name are those of `options`.
-mod options;
-
+// its name are those of `options`: `--strict` tells on standard error where and why a listing was cut.
 use air::MOST_FLIPS;
 use base::Edition;
 use header::Rules;
@@ -163,10 +161,18 @@ fn run(edition: Edition, strict: bool) {
     }
 }
 
+// Tells of a wrong word, and of the right ones.
+fn tell() {
+    io::write_all(
+        STDERR_FILENO,
+        b"edition flown or corrected: --edition wants one of these two, and --strict is the only other word\n",
+    );
+}
+
 fn main() {
     let asked = options::read();
     if asked.wrong {
-        options::tell();
+        tell();
         return;
     }
     let edition = asked.edition;

@@ -1,4 +1,4 @@
--- An answer that is counted; and a record that is taken: the tally after it, and its line.
+-- A record that is taken: the tally after it, and its line.
 -- Assumes nothing.
 use mathlib.Core.Path.{_≡_, ap, subst, _∙_}
 use mathlib.Core.List.{List}
@@ -6,10 +6,6 @@ use Prim.Native.Nat.{ℕ, _+_, _-_, _≤_}
 use native.Mathlib.Omega.{arith}
 use lib.ListN.{take, drop}
 use Rattle.text.specs.Text.{Put}
-use Rattle.base.specs.declared.Refusal.{Refusal}
-use Rattle.header.specs.declared.Header.{Header}
-use Rattle.header.specs.declared.Answer.{Answer}
-use Rattle.header.specs.declared.Answer.the-variants.{Accepted, Refused}
 use Rattle.header.specs.declared.Rules.{Rules}
 use Rattle.header.specs.declared.Read.{Read}
 use Rattle.frame.specs.Frames.{frame, frameRead}
@@ -21,14 +17,6 @@ use Rattle.lines.specs.Lines.{lineOf}
 use Rattle.lines.specs.Rooms.{lineRoom}
 use Rattle.listing.specs.Listing.{frameIn}
 use Rattle.listing.specs.Promises.{Takes}
-
--- an answer adds one to its count
-module _ (tally : Tally) (a : Answer) where
-  pub counts-accepted : (h : Header) (flips : ℕ) → a ≡ Accepted h flips → _≡_ {A = Tally} (record { accepted = tally .accepted + 1; refused = tally .refused }) (tallyAfter tally a)
-  counts-accepted h flips e = rw e
-
-  pub counts-refused : (why : Refusal) → a ≡ Refused why → _≡_ {A = Tally} (record { accepted = tally .accepted; refused = tally .refused + 1 }) (tallyAfter tally a)
-  counts-refused why e = rw e
 
 -- the payload ends where the record ends
 pub takes : (rules : Rules) (tally : Tally) (k : ℕ) → k ≡ totalOf tally → (l : List ℕ) (n : ℕ) (before : List ℕ) (at : ℕ) (after : List ℕ) (next : ℕ) (r : Read)

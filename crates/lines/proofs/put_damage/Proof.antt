@@ -11,9 +11,6 @@ slice-aggregate-put-three c = search needs
 slice-aggregate-put-three-2 : tie.Need-slice-aggregate-put-three-2
 slice-aggregate-put-three-2 c = search needs
 
-slice-aggregate-put-three-3 : tie.Need-slice-aggregate-put-three-3
-slice-aggregate-put-three-3 c = search needs
-
 put-three-requires : tie.Need-put-three-requires
 put-three-requires c κs = search needs
 
@@ -35,7 +32,6 @@ put-damage-spec =
     (tie.spec
     slice-aggregate-put-three
     slice-aggregate-put-three-2
-    slice-aggregate-put-three-3
     put-three-requires
     slice-aggregate-put-field
     put-field-requires

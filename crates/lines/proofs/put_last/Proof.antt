@@ -11,26 +11,8 @@ slice-aggregate-put-text c = search needs
 put-text-requires : tie.Need-put-text-requires
 put-text-requires c κs = search needs
 
-total-requires : tie.Need-total-requires
-total-requires c κs = search needs
-
-slice-aggregate-put-three : tie.Need-slice-aggregate-put-three
-slice-aggregate-put-three c = search needs
-
-cast-put-three : tie.Need-cast-put-three
-cast-put-three c = search needs
-
-slice-aggregate-put-three-2 : tie.Need-slice-aggregate-put-three-2
-slice-aggregate-put-three-2 c = search needs
-
-cast-put-three-2 : tie.Need-cast-put-three-2
-cast-put-three-2 c = search needs
-
-slice-aggregate-put-three-3 : tie.Need-slice-aggregate-put-three-3
-slice-aggregate-put-three-3 c = search needs
-
-put-three-requires : tie.Need-put-three-requires
-put-three-requires c κs = search needs
+put-counts-requires : tie.Need-put-counts-requires
+put-counts-requires c κs = search needs
 
 same-length : tie.Need-same-length
 same-length c = search needs
@@ -41,15 +23,4 @@ returns c = search (needs, put-last)
 pub put-last-spec : {M : Type 1} → statement M
 put-last-spec =
     tie.close
-    (tie.spec
-    slice-aggregate-put-text
-    put-text-requires
-    total-requires
-    slice-aggregate-put-three
-    cast-put-three
-    slice-aggregate-put-three-2
-    cast-put-three-2
-    slice-aggregate-put-three-3
-    put-three-requires
-    same-length
-    returns)
+    (tie.spec slice-aggregate-put-text put-text-requires put-counts-requires same-length returns)

@@ -11,6 +11,9 @@ enum-known-answer c = search needs
 worst-requires : tie.Need-worst-requires
 worst-requires c κs = search needs
 
+slice-aggregate-put-accepted : tie.Need-slice-aggregate-put-accepted
+slice-aggregate-put-accepted c = search needs
+
 put-accepted-requires : tie.Need-put-accepted-requires
 put-accepted-requires c κs = search needs
 
@@ -38,6 +41,7 @@ put-line-spec =
     (tie.spec
     enum-known-answer
     worst-requires
+    slice-aggregate-put-accepted
     put-accepted-requires
     enum-known-answer-2
     put-refused-requires

@@ -1,0 +1,106 @@
+// A test program: the marks of a short recording on standard input, found whole, cut in two at every place, and bit by bit.
+use libc::STDIN_FILENO;
+use libc::STDOUT_FILENO;
+use marks::State;
+
+// The most marks that are compared.
+const MOST: usize = 64;
+
+// More than any number of marks: one was another.
+const OTHER: usize = MOST + 1;
+
+fn say(text: &[u8]) {
+    io::write_all(STDOUT_FILENO, text);
+}
+
+// The places of the marks of a piece after a state; how many there are.
+fn collect(state: State, piece: &[u8], places: &mut [u32; MOST]) -> usize {
+    let mut n = 0;
+    let mut at = 0;
+    while n < MOST {
+        let step = marks::find(state, piece, at);
+        if !step.found {
+            return n;
+        }
+        places[n] = step.mark.place;
+        at = step.next;
+        n += 1;
+    }
+    n
+}
+
+// The marks of a piece after a state, held against the places from the n-th on; how many have agreed.
+fn agree(state: State, piece: &[u8], places: &[u32; MOST], start: usize) -> usize {
+    let mut n = start;
+    let mut at = 0;
+    while n < MOST {
+        let step = marks::find(state, piece, at);
+        if !step.found {
+            return n;
+        }
+        if step.mark.place != places[n] {
+            return OTHER;
+        }
+        at = step.next;
+        n += 1;
+    }
+    n
+}
+
+// The same of the bits cut in two at k.
+fn cut_at(bits: &[u8], k: usize, places: &[u32; MOST]) -> usize {
+    if bits.len() < k {
+        return OTHER;
+    }
+    let state = marks::fresh();
+    let n = agree(state, &bits[..k], places, 0);
+    let taken = marks::take(state, &bits[..k]);
+    let after = taken.state;
+    agree(after, &bits[k..], places, n)
+}
+
+// How many cuts give as many marks, in the same places.
+fn all_cuts(bits: &[u8], places: &[u32; MOST], marks: usize) -> u64 {
+    let mut same: u64 = 0;
+    let mut k = 0;
+    while k < bits.len() {
+        if cut_at(bits, k, places) == marks {
+            same = std::num::wrapping_add_u64(same, 1);
+        }
+        k += 1;
+    }
+    same
+}
+
+// The same bit by bit, each a piece.
+fn bit_by_bit(bits: &[u8], places: &[u32; MOST]) -> usize {
+    let mut state = marks::fresh();
+    let mut n = 0;
+    let mut i = 0;
+    while i < bits.len() {
+        let end = i + 1;
+        n = agree(state, &bits[i..end], places, n);
+        let taken = marks::take(state, &bits[i..end]);
+        state = taken.state;
+        i = end;
+    }
+    n
+}
+
+fn told(name: &[u8], number: u64) {
+    say(name);
+    io::print_decimal(STDOUT_FILENO, number);
+    say(b"\n");
+}
+
+fn main() {
+    let mut buf = io::large_buffer();
+    let n = io::read_full(STDIN_FILENO, &mut buf);
+    let bits = &buf[..n];
+    let mut places = [0u32; MOST];
+    let marks = collect(marks::fresh(), bits, &mut places);
+    told(b"bits ", n as u64);
+    told(b"marks ", marks as u64);
+    told(b"cuts with the same marks ", all_cuts(bits, &places, marks));
+    told(b"marks bit by bit ", bit_by_bit(bits, &places) as u64);
+}

@@ -1,0 +1,12 @@
+pub mod Marker
+pub mod Joining
+pub mod Seeking
+pub mod Verdicts
+pub mod Marks
+pub mod Steps
+pub mod Whole
+pub mod Cuts
+pub mod Asked
+pub mod Exactly
+pub mod Runs
+pub mod Walk

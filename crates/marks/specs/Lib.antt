@@ -1,0 +1,4 @@
+pub mod Marked
+pub mod Pieces
+pub mod Scanning
+pub mod Reports
