@@ -10,8 +10,8 @@ import sys
 
 import leftovers
 import usage
-from messages import DONE, FAILED, UNUSABLE, Failed, Unusable, end_by, hold_standard_descriptors, reason, say, tell
-from options import Help, taken, whole_number
+from messages import DONE, FAILED, UNUSABLE, Failed, Unusable, clear, end_by, hold_standard_descriptors, reason, say, tell
+from options import Help, only_one_of, taken, whole_number
 
 # What only some commands need is imported where it is used, so that the others start at once.
 TOP = os.path.dirname(os.path.dirname(os.path.realpath(__file__)))
@@ -40,10 +40,23 @@ def independent_binary():
 def list_command(words):
     import listing
 
-    options, files = taken(words, flags=("--names", "--strict"), valued={"--edition": listing.EDITIONS})
+    options, files = taken(words, flags=("--names", "--strict", "--jsonl", "--csv"), valued={"--edition": listing.EDITIONS})
+    form = only_one_of(options, "names", "jsonl", "csv")
     for name in files:
         listing.check(name)
-    return listing.list_all(listing.with_options(words_of("list"), options), files, "names" in options)
+    run_list = listing.with_options(words_of("list"), options)
+    made = rows_begun(form, options.get("edition", listing.FLOWN)) if form in ("jsonl", "csv") else None
+    return listing.list_all(run_list, files, names=form == "names", counted="records", rows=made)
+
+
+def rows_begun(form, edition):
+    """What makes rows of listings, the header line written."""
+    import refusals
+    import rows
+
+    made = rows.Rows(form, edition, refusals.read(TOP))
+    made.begin()
+    return made
 
 
 def search_command(words):
@@ -59,7 +72,7 @@ def beesat_command(words):
 
     _, files = taken(words)
     name = listing.only(files)
-    return listing.list_all(words_of("beesat_list"), [name], program="beesat_list")
+    return listing.list_all(words_of("beesat_list"), [name], program="beesat_list", counted="frames")
 
 
 def beesat_set_command(words):
@@ -171,6 +184,8 @@ def main():
     except OSError as error:
         tell(f"{error.filename}: {reason(error)}" if error.filename else reason(error))
         return FAILED
+    finally:
+        clear()
 
 
 sys.exit(main())

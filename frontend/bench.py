@@ -6,6 +6,7 @@ import subprocess
 import time
 
 import leftovers
+import progress
 from listing import list_one
 from messages import Unusable, say
 from replay import made_by
@@ -28,7 +29,8 @@ def bench(list_words, independent, emulated):
                     words = ["season", str(seed), str(RECORDS), "--clean", "--payload", str(payload)]
                     made_by(independent, words, "making a pass", stdout=out)
             ours, theirs = [], []
-            for _ in range(ROUNDS):
+            for k in range(ROUNDS):
+                progress.step(f"payload {payload}: round {k + 1} of {ROUNDS}")
                 if not emulated:
                     ours.append(timed(passes, lambda file: listed(list_words, file)))
                 theirs.append(timed(passes, lambda file: listed_by(independent, file)))

@@ -1,9 +1,11 @@
 """The commands that hand an input to a program, `list` first: standard input, or each file."""
 
+import contextlib
 import errno
 import os
 import stat
 
+import progress
 from messages import DONE, FAILED, Failed, Unusable, reason, say, tell
 from running import run
 
@@ -41,25 +43,45 @@ def with_options(words, options):
     return [*words, "--strict"] if "strict" in options else words
 
 
-def list_all(words, files, names=False, program="list"):
-    """Hands the files to a program in turn, each by itself; answers the status."""
+def list_all(words, files, names=False, program="list", counted="", rows=None):
+    """Hands the files to a program in turn, each by itself; answers the status.
+
+    `counted` says what the lines of its listing are about, where it writes one; with `rows` the listing is written as these.
+    """
     status = DONE
     for name in files or [STANDARD_INPUT]:
         shown = "standard input" if name == STANDARD_INPUT else name
         if names:
             say(f"==> {shown} <==\n")
-        if name == STANDARD_INPUT:
-            went_well = list_one(words, shown, None, program)
-        else:
-            try:
-                file = open(name, "rb")
-            except OSError as error:
-                raise Unusable(f"{name}: {reason(error)}") from error
-            with file:
-                went_well = list_one(words, shown, file, program)
-        if not went_well:
-            status = FAILED
+        with opened(name) as file:
+            if not list_taken(words, name, shown, file, program, counted, rows):
+                status = FAILED
     return status
+
+
+@contextlib.contextmanager
+def opened(name):
+    """A file, or None for standard input."""
+    if name == STANDARD_INPUT:
+        yield None
+        return
+    try:
+        file = open(name, "rb")
+    except OSError as error:
+        raise Unusable(f"{name}: {reason(error)}") from error
+    with file:
+        yield file
+
+
+def list_taken(words, name, shown, file, program, counted, rows):
+    """Lists one file. Its listing goes through this process where rows are made of it, or its progress is seen."""
+    watch = progress.reading(shown, file, counted) if counted else None
+    listing = rows.listing(name) if rows else None
+    take = listing.take if listing else say if watch else None
+    went_well = list_one(words, shown, file, program, take=watch.counting(take) if watch else take, watch=watch)
+    if listing:
+        listing.end()
+    return went_well
 
 
 def list_one(words, shown, file, program="list", **output):
@@ -67,13 +89,17 @@ def list_one(words, shown, file, program="list", **output):
 
     A program has no status of its own, so what it told says what happened.
     """
-    status, told = run(words, program, stdin=file, **output)
+
+    def hear(line):
+        if not line.startswith(("write: ", "edition")):
+            tell(f"{shown}: {line}")
+
+    status, told = run(words, program, hear=hear, stdin=file, **output)
     for line in told:
         if line.startswith("write: "):
             raise Failed(line)
         if line.startswith("edition"):
             raise Unusable(line)
-        tell(f"{shown}: {line}")
     if status != 0:
         raise Unusable(f"{program} could not be run (status {status})")
     return not any(line.startswith(("read: ", "cut at byte ", "refused ")) for line in told)

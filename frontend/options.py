@@ -35,6 +35,14 @@ def taken(words, flags=(), valued=()):
     return options, rest
 
 
+def only_one_of(options, *names):
+    """Which of these options is there; more than one exclude each other."""
+    there = [name for name in names if name in options]
+    if len(there) > 1:
+        raise Unusable(f"--{there[0]} and --{there[1]} exclude each other")
+    return there[0] if there else None
+
+
 def value_of(name, value, choices):
     """The value of an option: one of the choices where there are some, and not empty."""
     if value and (not choices or value in choices):

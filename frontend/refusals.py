@@ -24,9 +24,13 @@ class Row:
 
     def at(self, place):
         """The row at a place."""
+        return f"{self.number} {place}: {self.meaning(place)}"
+
+    def meaning(self, place):
+        """What the refusal says at a place."""
         if not self.allows(place):
             raise Unusable(f"refusal {self.number} has no place {place}; its places: {self.places}")
-        return f"{self.number} {place}: " + re.sub(r"\bP\b", str(place), self.says)
+        return re.sub(r"\bP\b", str(place), self.says)
 
     def allows(self, place):
         """Whether the number can have the place: `0 to 13`, `8 or more`, `any but 210` or a single number."""
@@ -57,7 +61,12 @@ def explain(rows, number=None, place=None):
     """What is to be said of all numbers, of one, or of one at a place."""
     if number is None:
         return "".join(row.short() + "\n" for row in rows.values())
+    row = row_of(rows, number)
+    return (row.short() if place is None else row.at(place)) + "\n"
+
+
+def row_of(rows, number):
+    """The row of a number."""
     if number not in rows:
         raise Unusable(f"no refusal has the number {number}; {TABLE} has them all")
-    row = rows[number]
-    return (row.short() if place is None else row.at(place)) + "\n"
+    return rows[number]

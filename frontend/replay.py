@@ -6,9 +6,10 @@ import os
 import re
 
 import leftovers
+import progress
 from listing import EDITIONS, FLOWN, list_one
 from messages import DONE, FAILED, Failed, Unusable, say
-from options import whole_number
+from options import only_one_of, whole_number
 from running import run
 
 FLAGS = ("--clean", "--full", "--full-exact")
@@ -56,8 +57,7 @@ def season_words(options, rest):
     if len(rest) != 2:
         raise Unusable("replay takes a seed and a number of records")
     words = [str(whole_number(word)) for word in rest]
-    if "full" in options and "full-exact" in options:
-        raise Unusable("--full and --full-exact exclude each other")
+    only_one_of(options, "full", "full-exact")
     if "payload" in options:
         options = dict(options, payload=str(whole_number(options["payload"], LONGEST_PAYLOAD)))
     return with_options(words, options)
@@ -92,12 +92,12 @@ def replay(list_words, independent, season, program="list"):
     with leftovers.folder() as room:
         pass_, listed, expected = (os.path.join(room, name) for name in ("pass", "listed", "expected"))
         with open(pass_, "wb") as out:
-            made_by(independent, season.made, "making the season", stdout=out)
+            made_by(independent, season.made, "making the season", stdout=out, watch=progress.writing("making the season", out))
         with open(pass_, "rb") as file, open(listed, "wb") as out:
-            if not list_one(list_words, "the season", file, program, stdout=out):
+            if not list_one(list_words, "the season", file, program, stdout=out, watch=progress.reading("listing the season", file)):
                 return FAILED
         with open(pass_, "rb") as file, open(expected, "wb") as out:
-            made_by(independent, season.listed, "the independent listing", stdin=file, stdout=out)
+            made_by(independent, season.listed, "the independent listing", stdin=file, stdout=out, watch=progress.reading("the independent listing", file))
         return compare(listed, expected, season.wanted, season.called)
 
 

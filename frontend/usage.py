@@ -19,12 +19,15 @@ Status 0; 1 where a read or a write failed, a replay found a difference, a stric
 
 COMMANDS = {
     "list": """\
-usage: nolbreva list [--edition E] [--names] [--strict] [--] [FILE ..]
+usage: nolbreva list [--edition E] [--names | --jsonl | --csv] [--strict] [--] [FILE ..]
 
 The listing of standard input, or one listing for each file in turn; the file - is standard input.
 
   --edition E    reads all frames under this edition: flown (S-NET; so where none is named) or corrected (SALSAT)
   --names        puts the line '==> NAME <==' before each listing
+  --jsonl        writes each line as an object, one a line (JSON Lines), with the file's name, every value of the line by
+                 name and a refusal's meaning; docs/DATABASE.md has the names
+  --csv          writes the same as CSV (RFC 4180), with one header line
   --strict       where a listing ends with `cut`, tells at which byte and why, and ends with status 1
 """,
     "search": """\

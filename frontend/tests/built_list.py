@@ -32,14 +32,18 @@ def season(*words):
     return subprocess.run([INDEPENDENT, "season", *words], stdout=subprocess.PIPE, check=True).stdout
 
 
-class Listings(unittest.TestCase):
-    @classmethod
-    def setUpClass(cls):
-        # builds what is not built, and what this tells is not part of any test
-        status, _, told = run("replay", "1", "1")
-        if status != 0:
-            raise RuntimeError(told)
+def build_all():
+    """Builds what is not built; what this tells is not part of any test."""
+    status, _, told = run("replay", "1", "1")
+    if status != 0:
+        raise RuntimeError(told)
 
+
+def setUpModule():
+    build_all()
+
+
+class Listings(unittest.TestCase):
     def test_the_example(self):
         listing = read("examples/listing")
         self.assertEqual(run("list", PASS), (0, listing, ""))

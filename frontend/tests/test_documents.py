@@ -5,6 +5,7 @@ import re
 import unittest
 
 import refusals
+import usage
 from tests.repository import TOP
 
 
@@ -63,6 +64,12 @@ class Readme(unittest.TestCase):
             self.assertTrue(os.path.exists(os.path.join(TOP, name)), name)
         named = set(re.findall(r"`(docs/[\w-]+\.md)`", self.readme))
         self.assertEqual({f"docs/{name}" for name in os.listdir(os.path.join(TOP, "docs"))}, named)
+
+
+class Layers(unittest.TestCase):
+    def test_every_command_has_a_row(self):
+        rows = re.findall(r"^\| `([\w-]+)` \|", read("docs", "LAYERS.md").partition("\n## Commands\n")[2], re.MULTILINE)
+        self.assertEqual(rows, list(usage.COMMANDS))
 
 
 if __name__ == "__main__":

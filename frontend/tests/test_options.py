@@ -3,7 +3,7 @@
 import unittest
 
 from messages import Unusable
-from options import Help, taken, whole_number
+from options import Help, only_one_of, taken, whole_number
 
 
 class Options(unittest.TestCase):
@@ -41,6 +41,13 @@ class Options(unittest.TestCase):
             with self.subTest(words), self.assertRaises(Unusable) as raised:
                 self.taken(*words)
             self.assertEqual(str(raised.exception), why)
+
+    def test_options_that_exclude_each_other(self):
+        self.assertIsNone(only_one_of({"flag": True}, "left", "right"))
+        self.assertEqual(only_one_of({"flag": True, "right": True}, "left", "right"), "right")
+        with self.assertRaises(Unusable) as raised:
+            only_one_of({"right": True, "left": True}, "left", "right")
+        self.assertEqual(str(raised.exception), "--left and --right exclude each other")
 
     def test_whole_numbers(self):
         self.assertEqual(whole_number("007"), 7)
