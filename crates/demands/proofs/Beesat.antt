@@ -15,12 +15,12 @@ use Rattle.base.proofs.Exactly.{exactly, done-apart}
 use Rattle.layout.specs.Bits.{bitAt, AreBytes}
 use Rattle.layout.specs.Rows.{rowIn, Outside}
 use Rattle.beesat.specs.Tables.{rows, fieldCount, errorAt}
-use Rattle.beesat.specs.Reading.{fieldIn, apidField, idleApid, headerIn, frameChecks, answerOf, shownField, readOf}
+use Rattle.beesat.specs.Reading.{fieldIn, apidField, idleApid, headerIn, frameChecks, shownField, readOf}
 use Rattle.beesat.specs.Accepting.{Accepts, ReadsAs}
 use Rattle.beesat.specs.Writing.{writeChecks, writeFieldOf, afterField, FieldWritten}
 use Rattle.beesat.specs.declared.Read.{Read}
 use Rattle.beesat.specs.declared.Answer.the-variants.{Idle, Refused as NotRead}
-use Rattle.beesat.proofs.Accepted.{reads-exactly, refused-exactly}
+use Rattle.beesat.proofs.Accepted.{reads-exactly, refused-exactly, answer-beside}
 use Rattle.beesat.proofs.Fields.{dataCount}
 use Rattle.beesat.proofs.Writable.{Writable, writable, writes}
 use Rattle.beesat.proofs.Rewritten as rewritten
@@ -31,8 +31,8 @@ pub beesat-accepted-exactly : (frame : List ℕ) (r : Read) → AreBytes frame �
 beesat-accepted-exactly = reads-exactly
 
 -- "Refusals, in order": given exactly when the paper's table says so, in reading and in writing
-pub beesat-refused-exactly : (frame : List ℕ) (why : Refusal) → Exactly (answerOf frame) (NotRead why) (frameChecks NotRead frame)
-beesat-refused-exactly = refused-exactly
+pub beesat-refused-exactly : (frame : List ℕ) (why : Refusal) → Exactly (readOf frame .answer) (NotRead why) (frameChecks NotRead frame)
+beesat-refused-exactly frame why = rw (answer-beside frame) (refused-exactly frame why)
 
 pub field-refused-exactly : (frame : List ℕ) (field value : ℕ) (why : Refusal) → Exactly (writeFieldOf frame field value) (Refused why) (writeChecks frame field value)
 unfolding writeFieldOf
