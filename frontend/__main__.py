@@ -59,6 +59,15 @@ def rows_begun(form, edition):
     return made
 
 
+def sheet_command(words):
+    import listing
+
+    options, files = taken(words, flags=("--names",), valued={"--edition": listing.EDITIONS})
+    for name in files:
+        listing.check(name)
+    return listing.list_all(listing.with_options(words_of("sheet_list"), options), files, "names" in options, "sheet_list")
+
+
 def search_command(words):
     import listing
 
@@ -109,9 +118,10 @@ def replay_command(words):
         season = replay.recording(options, rest)
         return replay.replay(listing.with_options(words_of("night"), options), independent_binary(), season, "night")
     options, rest = taken(words, flags=replay.FLAGS, valued=replay.VALUED)
+    program, command = ("sheet_list", "sheet") if options.pop("sheet", False) else ("list", "list")
     season = replay.season_words(options, rest)
-    run_list = listing.with_options(words_of("list"), options)
-    return replay.replay(run_list, independent_binary(), replay.records(season, options.get("edition", listing.FLOWN)))
+    run_list = listing.with_options(words_of(program), options)
+    return replay.replay(run_list, independent_binary(), replay.records(season, options.get("edition", listing.FLOWN), command), program)
 
 
 def bench_command(words):
@@ -135,6 +145,7 @@ def help_command(words):
 
 COMMANDS = {
     "list": list_command,
+    "sheet": sheet_command,
     "search": search_command,
     "beesat": beesat_command,
     "beesat-set": beesat_set_command,

@@ -12,7 +12,7 @@ from messages import DONE, FAILED, Failed, Unusable, say
 from options import only_one_of, whole_number
 from running import run
 
-FLAGS = ("--clean", "--full", "--full-exact")
+FLAGS = ("--clean", "--full", "--full-exact", "--sheet")
 VALUED = {"--edition": EDITIONS, "--payload": (), "--cut": ("length", "lone", "header", "payload")}
 # a season of frames of BEESAT-1
 BEESAT = "--beesat"
@@ -31,9 +31,9 @@ FULL_SHEET = 65535
 Season = collections.namedtuple("Season", "made listed called wanted")
 
 
-def records(words, edition):
-    """A season of records under an edition."""
-    return Season(["season", *words], ["list", "--edition", edition], "records", int(words[1]))
+def records(words, edition, command="list"):
+    """A season of records under an edition, of which a listing or a pass sheet is made."""
+    return Season(["season", *words], [command, "--edition", edition], "records", int(words[1]))
 
 
 def frames(words):

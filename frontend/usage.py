@@ -4,6 +4,7 @@ ALL = """\
 usage: nolbreva COMMAND [OPTION ..] [WORD ..]
 
   list [FILE ..]                the listing of standard input, or of each file
+  sheet [FILE ..]               the pass sheet of standard input, or of each file
   search [FILE]                 the headers in a recording of bits, one a byte: standard input, or a file
   beesat [FILE]                 a line for each BEESAT-1 frame of standard input, or of a file
   beesat-set FIELD VALUE [FILE] the BEESAT-1 frame on standard input, or in a file, with one field written
@@ -29,6 +30,17 @@ The listing of standard input, or one listing for each file in turn; the file - 
                  name and a refusal's meaning; docs/DATABASE.md has the names
   --csv          writes the same as CSV (RFC 4180), with one header line
   --strict       where a listing ends with `cut`, tells at which byte and why, and ends with status 1
+""",
+    "sheet": """\
+usage: nolbreva sheet [--edition E] [--names] [--] [FILE ..]
+
+The pass sheet of standard input, or one sheet for each file in turn; the file - is standard input. A line for each source
+that was heard: frames accepted and bits repaired, in all and in its two lanes, and in each lane the frames missed, the
+repeats and the last frame counter, `-` where there is none. Then a line for each refusal that was given, and how many
+frames it was given to; `cut` where the listing has it; and the listing's last line.
+
+  --edition E    reads all frames under this edition: flown (S-NET; so where none is named) or corrected (SALSAT)
+  --names        puts the line '==> NAME <==' before each sheet
 """,
     "search": """\
 usage: nolbreva search [--edition E] [--] [FILE]
@@ -60,7 +72,7 @@ What a refusal means, by its number and its place in a listing, as `explain 3 4`
 place, what its place is; without a number, all of docs/REFUSALS.md's table.
 """,
     "replay": """\
-usage: nolbreva replay [--edition E] SEED N [OPTION ..]
+usage: nolbreva replay [--edition E] [--sheet] SEED N [OPTION ..]
        nolbreva replay --recording SEED N [--edition E] [--gap G] [--bad]
        nolbreva replay --beesat SEED N [--clean] [--cut L]
 
@@ -68,6 +80,7 @@ Makes a season of N records by chance, the same for the same words, lists it by 
 and compares every line. Status 1 where they differ.
 
   --edition E     makes and lists the season under this edition: flown (so where none is named) or corrected
+  --sheet         compares the pass sheets of the season in place of its listings
   --payload L     all payloads have L bytes, 0 to 1023
   --clean         only frames that are accepted, with light damage
   --full          65536 short records in place of N: they fill a sheet, and the last one cuts

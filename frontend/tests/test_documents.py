@@ -32,6 +32,10 @@ class Readme(unittest.TestCase):
         self.assertIn("\n\n    ./nolbreva list examples/pass\n", self.readme)
         self.assertIn(f"\n\n{quoted(read('examples', 'listing'))}\n", self.readme)
 
+    def test_the_example_sheet(self):
+        self.assertIn("\n\n    ./nolbreva sheet examples/pass\n", self.readme)
+        self.assertIn(f"\n\n{quoted(read('examples', 'sheet'))}\n", self.readme)
+
     def test_the_example_of_the_corrected_edition(self):
         pass_, listing = (os.path.join("examples", "cases", f"corrected_pass.{end}") for end in ("in", "out"))
         self.assertIn(f"\n\n    ./nolbreva list --edition corrected {pass_}\n", self.readme)

@@ -18,6 +18,7 @@
 //! | [`shown`] | the shown value, with its third term (16) |
 //! | [`sheet`] | the pass sheet (17, 22), what it counts, its lanes |
 //! | [`listing`] | the listing |
+//! | [`totals`] | the text of a pass sheet |
 //! | [`catches`] | what CRC5 alone catches |
 //! | [`window`], [`search`] | a header behind its marker (21, editions), headers in a recording (19, 37) |
 //! | [`beesat`] | BEESAT-1 frames read (25 to 28), one field written (38, 29), their listing |
@@ -45,6 +46,7 @@ pub mod search;
 pub mod season;
 pub mod sheet;
 pub mod shown;
+pub mod totals;
 pub mod vectors;
 pub mod window;
 pub mod word;

@@ -4,7 +4,7 @@ use std::fmt;
 use std::io::{self, ErrorKind, Read, Write};
 
 use crate::air::AIR_BITS;
-use crate::header::{Field, LONGEST_PAYLOAD};
+use crate::header::{Field, Heard, LONGEST_PAYLOAD};
 use crate::refusal::Refusal;
 use crate::rules::{Edition, Rules, LARGEST_LIMIT};
 use crate::sheet::Sheet;
@@ -37,21 +37,47 @@ fn list_records(
     output: &mut impl Write,
 ) -> Result<(), Failure> {
     writeln!(output, "pass sheet").map_err(Failure::Write)?;
+    let (sheet, cut) = offer_all(edition, input, |number, bytes, answer| {
+        list_record(edition, number, bytes, answer, output)
+    })?;
+    write_last(&sheet, cut, output).map_err(Failure::Write)
+}
+
+/// Offers the records of `input`, frames of this edition, to a new sheet in turn, and hands over each one's number,
+/// its payload's length and its answer. Gives the sheet, and whether the input was cut.
+pub(crate) fn offer_all(
+    edition: Edition,
+    input: &mut impl Read,
+    mut each: impl FnMut(u64, usize, &Result<Heard, Refusal>) -> io::Result<()>,
+) -> Result<(Sheet, bool), Failure> {
+    // "The listing names 42 and prints what it did." A record has no call sign bits.
+    let rules = Rules {
+        edition,
+        limit: LARGEST_LIMIT,
+    };
     let mut sheet = Sheet::new(edition);
     let mut record = RecordBuffer::new();
     for number in 0.. {
-        let next = record.read_from(input).map_err(Failure::Read)?;
-        let goes_on = match next {
+        match record.read_from(input).map_err(Failure::Read)? {
             Next::End => break,
-            Next::Cut => false,
-            Next::Whole => {
-                list_record(&mut sheet, number, &record, output).map_err(Failure::Write)?
-            }
-        };
-        if !goes_on {
-            writeln!(output, "cut").map_err(Failure::Write)?;
-            break;
+            Next::Cut => return Ok((sheet, true)),
+            Next::Whole => {}
         }
+        let payload = record.payload();
+        let answer = sheet.offer(rules, None, &record.header, payload);
+        // "A further record for a full sheet does the same" as one that ends early.
+        if matches!(answer, Err(Refusal { number: 17, .. })) {
+            return Ok((sheet, true));
+        }
+        each(number, payload.len(), &answer).map_err(Failure::Write)?;
+    }
+    Ok((sheet, false))
+}
+
+/// "Prints `cut`, then the last line with the counts so far."
+pub(crate) fn write_last(sheet: &Sheet, cut: bool, output: &mut impl Write) -> io::Result<()> {
+    if cut {
+        writeln!(output, "cut")?;
     }
     let (heard, accepted, refused) = (
         sheet.offered(),
@@ -62,42 +88,31 @@ fn list_records(
         output,
         "heard {heard} accepted {accepted} refused {refused}"
     )
-    .map_err(Failure::Write)
 }
 
-/// Offers a record to the sheet and writes its line; false where the sheet is full, "a further record
-/// for a full sheet does the same" as one that ends early.
+/// Writes a record's line.
 fn list_record(
-    sheet: &mut Sheet,
+    edition: Edition,
     number: u64,
-    record: &RecordBuffer,
+    bytes: usize,
+    answer: &Result<Heard, Refusal>,
     output: &mut impl Write,
-) -> io::Result<bool> {
-    // "The listing names 42 and prints what it did." A record has no call sign bits.
-    let rules = Rules {
-        edition: sheet.edition,
-        limit: LARGEST_LIMIT,
+) -> io::Result<()> {
+    let heard = match answer {
+        Ok(heard) => heard,
+        Err(refusal) => return writeln!(output, "{number} {refusal}"),
     };
-    let payload = record.payload();
-    match sheet.offer(rules, None, &record.header, payload) {
-        Ok(heard) => {
-            let sender = Sender {
-                edition: sheet.edition,
-                src_id: heard.header[Field::SrcId],
-            };
-            let tx = heard.header[Field::FrCntTx];
-            let (flips, worst) = (heard.flips(), heard.worst());
-            let bytes = payload.len();
-            writeln!(
-                output,
-                "{number} accepted {sender} tx {tx} \
-                 repaired {flips} worst {worst} bytes {bytes}"
-            )?;
-        }
-        Err(Refusal { number: 17, .. }) => return Ok(false),
-        Err(refusal) => writeln!(output, "{number} {refusal}")?,
-    }
-    Ok(true)
+    let sender = Sender {
+        edition,
+        src_id: heard.header[Field::SrcId],
+    };
+    let tx = heard.header[Field::FrCntTx];
+    let (flips, worst) = (heard.flips(), heard.worst());
+    writeln!(
+        output,
+        "{number} accepted {sender} tx {tx} \
+         repaired {flips} worst {worst} bytes {bytes}"
+    )
 }
 
 /// Who sent a frame, as a line writes it.

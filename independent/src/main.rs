@@ -17,6 +17,7 @@ use independent::recording::{self, write_recording};
 use independent::rules::Edition;
 use independent::search::search;
 use independent::season::{write_season, Cut, Full, Options};
+use independent::totals::write_sheet;
 use independent::vectors::{self, compare, write_inputs, write_lines, write_replies, KINDS};
 
 const USAGE: &str = "\
@@ -24,6 +25,8 @@ usage: independent COMMAND ..
 
   list [--edition E] [FILE ..]
                            the listing of standard input, or of each file in turn
+  sheet [--edition E] [FILE ..]
+                           the pass sheet of standard input, or of each file in turn
   season SEED N [OPTION ..]
                            N records by chance; SEED and N are whole numbers
       --edition E          the edition that they are written under
@@ -121,7 +124,8 @@ fn run(arguments: &[OsString], out: &mut Output) -> Result<bool, Stop> {
         return Err(Stop::Usage(String::from("no command")));
     };
     let written = match command.to_str() {
-        Some("list") => return list_all(rest, out),
+        Some("list") => return list_all(Told::Records, rest, out),
+        Some("sheet") => return list_all(Told::Sheet, rest, out),
         Some("season") => write_season(&season_options(rest)?, out),
         Some("example") => {
             no_more(rest)?;
@@ -158,9 +162,18 @@ fn run(arguments: &[OsString], out: &mut Output) -> Result<bool, Stop> {
     written.map(|()| true).map_err(failed_write)
 }
 
+/// What is told of an input of records.
+#[derive(Clone, Copy)]
+enum Told {
+    /// A line for each.
+    Records,
+    /// The sheet that was offered them.
+    Sheet,
+}
+
 /// Lists standard input, or each file; a file that cannot be read does not keep the next from being
 /// listed.
-fn list_all(arguments: &[OsString], out: &mut Output) -> Result<bool, Stop> {
+fn list_all(told: Told, arguments: &[OsString], out: &mut Output) -> Result<bool, Stop> {
     let (edition, files) = match arguments {
         [option, rest @ ..] if option == "--edition" => {
             (edition(rest.first())?, rest.get(1..).unwrap_or_default())
@@ -168,13 +181,13 @@ fn list_all(arguments: &[OsString], out: &mut Output) -> Result<bool, Stop> {
         files => (Edition::Flown, files),
     };
     if files.is_empty() {
-        return list_one(edition, io::stdin().lock(), "standard input", out);
+        return list_one(told, edition, io::stdin().lock(), "standard input", out);
     }
     let mut all_read = true;
     for file in files {
         let name = Path::new(file).display().to_string();
         all_read &= match File::open(file) {
-            Ok(input) => list_one(edition, input, &name, out)?,
+            Ok(input) => list_one(told, edition, input, &name, out)?,
             Err(error) => {
                 tell(&format!("{name}: {error}"));
                 false
@@ -186,13 +199,18 @@ fn list_all(arguments: &[OsString], out: &mut Output) -> Result<bool, Stop> {
 
 /// Lists one input; false where it could not be read to its end.
 fn list_one(
+    told: Told,
     edition: Edition,
     input: impl Read,
     name: &str,
     out: &mut Output,
 ) -> Result<bool, Stop> {
     let mut input = BufReader::with_capacity(BUFFER, input);
-    listed(list(edition, &mut input, out), name)
+    let result = match told {
+        Told::Records => list(edition, &mut input, out),
+        Told::Sheet => write_sheet(edition, &mut input, out),
+    };
+    listed(result, name)
 }
 
 /// What came of a listing; false where its input could not be read to its end.

@@ -21,7 +21,7 @@ use Rattle.air.specs.WordRepairs.{worstOf}
 use Rattle.base.specs.declared.Edition.{Edition}
 use Rattle.base.specs.declared.Edition.the-variants.{Flown, Corrected}
 use Rattle.base.specs.declared.Written.{Written}
-use Rattle.header.specs.Fields.{satelliteOf, radioOf}
+use Rattle.header.specs.Fields.{lastSourceOf, satelliteOf, radioOf}
 use Rattle.header.specs.Rules.{usualRules}
 use Rattle.header.specs.Reading.{signal, signed}
 use Rattle.header.specs.Patterns.{beside, headerRead}
@@ -30,7 +30,9 @@ use Rattle.beesat.specs.declared.Read.{Read as FrameRead}
 use Rattle.beesat.specs.Reading.{readOf}
 use Rattle.beesat.specs.Writing.{afterField, FieldWritten}
 use Rattle.frame.specs.Frames.{frame, signedFrame, frameRead}
+use Rattle.header.specs.declared.Header.{Header}
 use Rattle.sheet.specs.declared.Lane.{Lane}
+use Rattle.sheet.specs.declared.Source.{Source}
 use Rattle.sheet.specs.declared.Display.{Display}
 use Rattle.sheet.specs.declared.Sheet.{Sheet}
 use Rattle.sheet.specs.declared.Offered.{Offered}
@@ -38,7 +40,8 @@ use Rattle.sheet.specs.declared.wide.WideSheet.{WideSheet}
 use Rattle.sheet.specs.declared.wide.WideOffered.{WideOffered}
 use Rattle.sheet.specs.Wide.{held, widened, wideOffered}
 use Rattle.sheet.specs.Records.{nextOf}
-use Rattle.sheet.specs.Sheets.{newSheet, acceptedOf, refusedOf, heardOf, fullOf, offerOf, displayOf}
+use Rattle.sheet.specs.Lanes.{hearOf, summedOf}
+use Rattle.sheet.specs.Sheets.{newSheet, countsAfter, acceptedOf, refusedOf, heardOf, fullOf, offerOf, displayOf}
 use Rattle.lines.specs.declared.Tally.{Tally}
 use Rattle.lines.specs.Tallies.{totalOf}
 use Rattle.record.specs.declared.Cut.{Cut}
@@ -104,6 +107,9 @@ satellite-one «src_id» r s = one
 pub radio-one : («src_id» r s : ℕ) → r ≡ radioOf «src_id» → s ≡ radioOf «src_id» → r ≡ s
 radio-one «src_id» r s = one
 
+pub last-source-one : (edition : Edition) (r s : ℕ) → r ≡ lastSourceOf edition → s ≡ lastSourceOf edition → r ≡ s
+last-source-one edition r s = one
+
 pub usual-one : (edition : Edition) (r s : Rules) → r ≡ usualRules edition → s ≡ usualRules edition → r ≡ s
 usual-one edition r s = one
 
@@ -165,6 +171,15 @@ full-one sheet r s = one
 
 pub next-one : (lane : Lane) («fr_cnt_tx» flips : ℕ) (r s : Lane) → r ≡ nextOf lane «fr_cnt_tx» flips → s ≡ nextOf lane «fr_cnt_tx» flips → r ≡ s
 next-one lane «fr_cnt_tx» flips r s = one
+
+pub hear-one : (source : Source) (header : Header) (flips : ℕ) (r s : Source) → r ≡ hearOf source header flips → s ≡ hearOf source header flips → r ≡ s
+hear-one source header flips r s = one
+
+pub refuse-one : (counts : List ℕ) (number : ℕ) (r s : List ℕ) → r ≡ countsAfter counts number → s ≡ countsAfter counts number → r ≡ s
+refuse-one counts number r s = one
+
+pub summed-one : (source : Source) (r s : Display) → r ≡ summedOf source → s ≡ summedOf source → r ≡ s
+summed-one source r s = one
 
 pub display-of-one : (sheet : Sheet) (source : ℕ) (r s : Display) → r ≡ displayOf Flown sheet source → s ≡ displayOf Flown sheet source → r ≡ s
 display-of-one sheet source r s = one

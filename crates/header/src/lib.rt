@@ -1,6 +1,5 @@
-// The header: its fields, the reader of a header alone (refusals 20, 1, 2, 23, 3, 21, 4, 5, 24, 6) and the writer (13 to 15).
+// The header: its fields, and the reader of a header alone (refusals 20, 1, 2, 23, 3, 21, 4, 5, 24, 6). The writer is `header_writer`.
 mod reading;
-mod writing;
 
 use air::WORD_COUNT;
 use base::Edition;
@@ -9,7 +8,6 @@ pub use reading::read_header;
 pub use reading::read_header_in;
 pub use reading::read_header_signed;
 pub use reading::read_header_with;
-pub use writing::write_header;
 ghost use mathlib.Core.Path.{_≡_};
 ghost use Prim.Native.Nat.{_+_};
 ghost use Rattle.header.specs.Fields.{lastSourceOf, satelliteOf, radioOf};
@@ -21,10 +19,10 @@ pub const LAST_FLOWN_SOURCE: u8 = 7;
 
 pub const LAST_CORRECTED_SOURCE: u8 = 127;
 
-const LAST_CODING: u8 = 3;
+pub const LAST_CODING: u8 = 3;
 
 // Fields 0 to 13 are those that a writer is handed.
-const FIELD_COUNT: usize = 14;
+pub const FIELD_COUNT: usize = 14;
 
 // Fields 0 to 13, by the paper's names: those that a writer is handed.
 pub struct Fields {
@@ -72,7 +70,7 @@ pub fn usual(edition: Edition) -> Rules
 }
 
 // The last SrcId that is not refused.
-fn last_source(edition: Edition) -> u8
+pub fn last_source(edition: Edition) -> u8
     ensures { λ r. ⌜ r ≡ lastSourceOf edition ⌝ }
 {
     match edition {

@@ -61,7 +61,7 @@ pub fn count(tally: Tally, answer: Answer) -> Tally
 }
 
 // Puts three numbers, each with a text after it.
-fn put_three(
+pub fn put_three(
     out: &mut [u8],
     at: usize,
     x: u64,
@@ -116,7 +116,7 @@ fn put_number(out: &mut [u8], at: usize, src_id: u8) -> usize
 }
 
 // Puts who spoke: under the corrected edition a frame is given to no S-NET satellite.
-fn put_speaker(out: &mut [u8], at: usize, edition: Edition, src_id: u8) -> usize
+pub fn put_speaker(out: &mut [u8], at: usize, edition: Edition, src_id: u8) -> usize
     requires { ⌜ at + speakerRoom ≤ length (now out) ⌝ }
     ensures { λ r. ⌜ Put (now (out .entry)) at (speakerOf edition «src_id») (now (out .exit)) r ⌝ }
     ensures { λ r. ⌜ r ≤ at + speakerRoom ⌝ }

@@ -14,19 +14,16 @@ use Rattle.record.specs.Records.{recordSize}
 use Rattle.listing.specs.Promises.{Turns}
 use Rattle.listing.proofs.Keeping.{left-inside, left-short}
 use Rattle.streams.specs.declared.Next.{Next}
-use Rattle.streams.specs.declared.Next.the-variants.{More, Done, Failed}
-use Rattle.streams.specs.Turns.{onwardOf}
-use Rattle.streams.proofs.Reading.{done-more, failed-more}
+use Rattle.streams.specs.declared.Next.the-variants.{More}
+use Rattle.streams.specs.Turns.{readOn, onwardOf}
+use Rattle.streams.proofs.Reading.{failed-more, read-open}
 use Rattle.list.specs.declared.State.{State}
-use Rattle.list.specs.Turns.{readOn, Turned}
+use Rattle.list.specs.Turns.{Turned}
 
 -- more is read only where the listing is not over
 more-open : (read : Next) (over wrote : Bool) → onwardOf (readOn read over) wrote ≡ More → over ≡ false
-more-open read false wrote e = refl
-more-open read true false e = absurd (failed-more e)
-more-open More true true e = absurd (done-more e)
-more-open Done true true e = absurd (done-more e)
-more-open Failed true true e = absurd (failed-more e)
+more-open read over false e = absurd (failed-more e)
+more-open read over true e = read-open read over e
 
 -- what is left of the bytes read is within them, and what a turn leaves
 module _ (rules : Rules) (tally : Tally) (buf : List ℕ) (end : ℕ) (in-buf : end ≤ length buf) (out buf′ out′ : List ℕ) (r : Listed) (so : Turns rules tally buf end out buf′ out′ r) where

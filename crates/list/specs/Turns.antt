@@ -1,21 +1,14 @@
 -- What a turn of the program leaves.
 -- Assumes nothing.
 use mathlib.Core.Path.{_≡_}
-use mathlib.Core.Bool.{Bool, cond}
 use mathlib.Core.List.{List}
 use Prim.Native.Nat.{ℕ, _<_, _≤_}
 use lib.ListN.{length}
 use Rattle.air.specs.Air.{payloadLimit}
 use Rattle.record.specs.Records.{recordSize}
 use Rattle.streams.specs.declared.Next.{Next}
-use Rattle.streams.specs.declared.Next.the-variants.{More, Done, Failed}
+use Rattle.streams.specs.declared.Next.the-variants.{More}
 use Rattle.list.specs.declared.State.{State}
-
--- how to go on after a read: where the listing is over, nothing more is read
-abbrev pub readOn : Next → Bool → Next
-readOn More over = cond over Done More
-readOn Done over = Done
-readOn Failed over = Failed
 
 -- what a turn keeps is within the buffer; where there is more to read, it is less than a record, so that the buffer has room
 pub record Turned (buf : List ℕ) (r : State) : Type 0 where

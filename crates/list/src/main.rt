@@ -8,6 +8,7 @@ use lines::Tally;
 use record::Cut;
 use streams::Filled;
 use streams::Next;
+use streams::after_read;
 use streams::after_write;
 use streams::read_on;
 use streams::write;
@@ -20,7 +21,7 @@ ghost use Rattle.air.specs.Air.{payloadLimit};
 ghost use Rattle.record.specs.Records.{recordSize};
 ghost use Rattle.lines.specs.Rooms.{lineRoom};
 ghost use Rattle.listing.specs.Listing.{listedRules};
-ghost use Rattle.list.specs.Turns.{readOn, Turned};
+ghost use Rattle.list.specs.Turns.{Turned};
 
 // What a turn leaves: the tally so far, the place in the input of the buffer's front, and how many bytes are kept there.
 struct State {
@@ -28,22 +29,6 @@ struct State {
     front: u64,
     kept: usize,
     next: Next,
-}
-
-// How to go on after a read, where the listing may be over. A failed read stays one.
-fn after_read(read: Next, over: bool) -> Next
-    ensures { λ r. ⌜ r ≡ readOn read over ⌝ }
-{
-    match read {
-        Next::More => {
-            if over {
-                return Next::Done;
-            }
-            Next::More
-        }
-        Next::Done => Next::Done,
-        Next::Failed => Next::Failed,
-    }
 }
 
 // Lists what was read, and writes the lines. A place past 2^64, which no input reaches, would wrap.

@@ -35,41 +35,49 @@ put-size {before} {text} {after} {at} {next} put = part-size after next (omega (
 drop-take : (from n : ℕ) (l : List ℕ) → from ≤ length l → drop from (take (from + n) l) ≡ take n (drop from l)
 drop-take from n l h = rw (take-add from n l) (drop-at (take from l) (take n (drop from l)) from (length-take-le from l h))
 
-module _ (rules : Rules) (tally : Tally) (buf : List ℕ) (end : ℕ) (inside : end ≤ length buf) (out out′ : List ℕ) (r : Listed) (so : Scanned rules tally (take end buf) out 0 out′ r) where
-  suffix : Suffix (take end buf) (scanOf rules tally (take end buf) .rest)
-  suffix = scan-rest rules tally (take end buf)
-
-  skipped : r .left + suffix .skip ≡ end
-  skipped =
-      let left : r .left ≡ length (take end buf) - suffix .skip = so .left-is ∙ ap length (sym (suffix .is)) ∙ length-drop (suffix .skip) (take end buf) in
-      omega (arith, suffix .inside, part-size buf end inside)
-
-  -- what is left is within the piece
-  pub left-inside : r .left ≤ end
-  left-inside = omega (arith, skipped)
-
-  pub left-room : end - r .left + r .left ≤ length buf
-  left-room = omega (arith, skipped)
-
-  -- and is its end
-  left-rest : take (r .left) (drop (end - r .left) buf) ≡ scanOf rules tally (take end buf) .rest
-  left-rest =
-      let from : ℕ = end - r .left in
-      let all : from + r .left ≡ end = omega (arith, skipped) in
-      let skip : suffix .skip ≡ from = omega (arith, skipped) in
-      sym (rw all at (drop-take from (r .left) buf (omega arith))) ∙ rw skip at (suffix .is)
-
 -- what was moved stands at the front
 moved-front : (before : List ℕ) (from n : ℕ) (after : List ℕ) → from + n ≤ length before → Moved before from n after → take n after ≡ take n (drop from before)
 moved-front before from n after room moved =
     rw (moved .bytes) (take-at (take n (drop from before)) (drop n before) n (length-take-le n (drop from before) (omega (arith, length-drop from before))))
 
--- so what is left of a piece then stands at the buffer's front
+-- the bytes that are left of the first `end` of a buffer, so many
+module _ (rules : Rules) (tally : Tally) (buf : List ℕ) (end : ℕ) (inside : end ≤ length buf) (left : ℕ) (many : left ≡ length (scanOf rules tally (take end buf) .rest)) where
+  suffix : Suffix (take end buf) (scanOf rules tally (take end buf) .rest)
+  suffix = scan-rest rules tally (take end buf)
+
+  skipped : left + suffix .skip ≡ end
+  skipped =
+      let so : left ≡ length (take end buf) - suffix .skip = many ∙ ap length (sym (suffix .is)) ∙ length-drop (suffix .skip) (take end buf) in
+      omega (arith, suffix .inside, part-size buf end inside)
+
+  -- are within them
+  pub rest-inside : left ≤ end
+  rest-inside = omega (arith, skipped)
+
+  -- and are their end
+  rest-there : take left (drop (end - left) buf) ≡ scanOf rules tally (take end buf) .rest
+  rest-there =
+      let from : ℕ = end - left in
+      let all : from + left ≡ end = omega (arith, skipped) in
+      let skip : suffix .skip ≡ from = omega (arith, skipped) in
+      sym (rw all at (drop-take from left buf (omega arith))) ∙ rw skip at (suffix .is)
+
+  -- so where they were moved, they stand at the buffer's front
+  pub rest-moved : (buf′ : List ℕ) → Moved buf (end - left) left buf′ → take left buf′ ≡ scanOf rules tally (take end buf) .rest
+  rest-moved buf′ moved = moved-front buf (end - left) left buf′ (omega (arith, rest-inside)) moved ∙ rest-there
+
+module _ (rules : Rules) (tally : Tally) (buf : List ℕ) (end : ℕ) (inside : end ≤ length buf) (out out′ : List ℕ) (r : Listed) (so : Scanned rules tally (take end buf) out 0 out′ r) where
+  -- what is left is within the piece
+  pub left-inside : r .left ≤ end
+  left-inside = rest-inside rules tally buf end inside (r .left) (so .left-is)
+
+  pub left-room : end - r .left + r .left ≤ length buf
+  left-room = omega (arith, left-inside)
+
+-- and then stands at the buffer's front
 pub kept-rest : (rules : Rules) (tally : Tally) (buf : List ℕ) (end : ℕ) → end ≤ length buf → (out buf′ out′ : List ℕ) (r : Listed) → Turns rules tally buf end out buf′ out′ r
     → take (r .left) buf′ ≡ scanOf rules tally (take end buf) .rest
-kept-rest rules tally buf end inside out buf′ out′ r turned =
-    moved-front buf (end - r .left) (r .left) buf′ (left-room rules tally buf end inside out out′ r (turned .listed)) (turned .kept)
-    ∙ left-rest rules tally buf end inside out out′ r (turned .listed)
+kept-rest rules tally buf end inside out buf′ out′ r turned = rest-moved rules tally buf end inside (r .left) (turned .listed .left-is) buf′ (turned .kept)
 
 -- where the listing is not over, what is left is shorter than the longest record
 pub left-short : (rules : Rules) (tally : Tally) (l before : List ℕ) (at : ℕ) (after : List ℕ) (r : Listed) → Scanned rules tally l before at after r → r .over ≡ false → r .left < recordSize payloadLimit

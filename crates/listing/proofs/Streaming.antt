@@ -21,13 +21,13 @@ use Rattle.record.proofs.Stays.{long-stays, whole-stays, air-stays, payload-sta
 use Rattle.listing.proofs.Scans.{Stopped, full, long, short, scan-stops, scan-takes, by-records, scan-stopped}
 
 -- a listing that is over cuts, whatever follows
-over-cuts : (tally : Tally) (l f : List ℕ) → Stopped tally l true → anyLeft (l ++ f) ≡ true
+pub over-cuts : (tally : Tally) (l f : List ℕ) → Stopped tally l true → anyLeft (l ++ f) ≡ true
 over-cuts tally l f (full {n} e g) = lt-ltb 0 (length (l ++ f)) (omega (arith, length-append l f, whole-at l n e .there))
 over-cuts tally l f (long e) = lt-ltb 0 (length (l ++ f)) (omega (arith, length-append l f, long-at l e .two))
 
 module _ (rules : Rules) where
   -- what becomes of some bytes and of those that follow, from what became of the former
-  abbrev resumed : Scan → List ℕ → Scan
+  abbrev pub resumed : Scan → List ℕ → Scan
   resumed r f =
       cond (r .over) (record { tally = r .tally; text = r .text; rest = r .rest ++ f; over = true })
       (after (r .text) (scanOf rules (r .tally) (r .rest ++ f)))
@@ -39,7 +39,7 @@ module _ (rules : Rules) where
       by true e = rw e
       by false e = rw (e, append-assoc)
 
-  scan-append : (f : List ℕ) (tally : Tally) (l : List ℕ) → scanOf rules tally (l ++ f) ≡ resumed (scanOf rules tally l) f
+  pub scan-append : (f : List ℕ) (tally : Tally) (l : List ℕ) → scanOf rules tally (l ++ f) ≡ resumed (scanOf rules tally l) f
   scan-append f = by-records rules (λ tally l. scanOf rules tally (l ++ f) ≡ resumed (scanOf rules tally l) f) stops takes
     where
       stops : (tally : Tally) (l : List ℕ) (over : Bool) → Stopped tally l over → scanOf rules tally (l ++ f) ≡ resumed (scanOf rules tally l) f

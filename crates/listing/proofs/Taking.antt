@@ -19,13 +19,13 @@ use Rattle.listing.specs.Listing.{frameIn}
 use Rattle.listing.specs.Promises.{Takes}
 
 -- the payload ends where the record ends
+pub reads : (rules : Rules) (l : List ℕ) (n : ℕ) (r : Read) → r ≡ frameRead (frame rules (airIn l) (take (recordSize n - payloadStart) (drop payloadStart l))) → r ≡ frameRead (frameIn rules n l)
+reads rules l n r is = let same : recordSize n - payloadStart ≡ n = omega arith in rw same at is
+
 pub takes : (rules : Rules) (tally : Tally) (k : ℕ) → k ≡ totalOf tally → (l : List ℕ) (n : ℕ) (before : List ℕ) (at : ℕ) (after : List ℕ) (next : ℕ) (r : Read)
-    → r ≡ frameRead (frame rules (airIn l) (take (recordSize n - payloadStart) (drop payloadStart l)))
-    → Put before at (lineOf (rules .edition) k n r) after next → next ≤ at + lineRoom → (counted : Tally) → counted ≡ tallyAfter tally (r .answer)
+    → r ≡ frameRead (frameIn rules n l) → Put before at (lineOf (rules .edition) k n r) after next → next ≤ at + lineRoom → (counted : Tally) → counted ≡ tallyAfter tally (r .answer)
     → Takes rules tally l n before at after (record { tally = counted; to = next })
-takes rules tally k number l n before at after next r is put short counted counts =
-    let same : recordSize n - payloadStart ≡ n = omega arith in
-    let read : r ≡ frameRead (frameIn rules n l) = rw same at is in
+takes rules tally k number l n before at after next r read put short counted counts =
     record {
       tally-is = counts ∙ ap (tallyAfter tally) (frame-answer (frameIn rules n l) r read);
       line = rw (← number) (subst (λ (x : Read). Put before at (lineOf (rules .edition) k n x) after next) read put);

@@ -4,7 +4,6 @@ use base::Edition;
 use base::LONG_RECORDING;
 use base::NO_BIT_IN_PIECE;
 use base::Refusal;
-use libc::STDERR_FILENO;
 use lines::Stop;
 use lines::Tally;
 use marks::LONGEST_RECORDING;
@@ -347,18 +346,10 @@ fn run(edition: Edition) {
     }
 }
 
-// Tells of a wrong word, and of the right ones.
-fn tell() {
-    io::write_all(
-        STDERR_FILENO,
-        b"edition flown or corrected: --edition wants one of these two, and there is no other word\n",
-    );
-}
-
 fn main() {
     let asked = options::read();
     if asked.wrong || asked.strict {
-        tell();
+        options::tell();
         return;
     }
     let edition = asked.edition;

@@ -1,5 +1,6 @@
 // The words after a program's name: `--strict`, and `--edition` with one of `flown` and `corrected`.
 use base::Edition;
+use libc::STDERR_FILENO;
 
 // What was asked for. `named` is set between `--edition` and its word.
 pub struct Options {
@@ -114,4 +115,12 @@ pub fn read() -> Options {
         };
     }
     asked
+}
+
+// Tells of a wrong word, and of the right ones, where a program takes an edition and no other word.
+pub fn tell() {
+    io::write_all(
+        STDERR_FILENO,
+        b"edition flown or corrected: --edition wants one of these two, and there is no other word\n",
+    );
 }

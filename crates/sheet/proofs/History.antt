@@ -15,9 +15,9 @@ use Rattle.sheet.specs.declared.Lane.{Lane}
 use Rattle.sheet.specs.declared.Sheet.{Sheet}
 use Rattle.sheet.specs.Lanes.{Role, as-caller, as-responder}
 use Rattle.sheet.specs.Sheets.{slotOf, newSheet, sourceAt, laneAt, refusalsAt, acceptedOf, refusedOf, fullSheet, sameEdition, editionOf, takenOf, offerOf}
-use Rattle.sheet.specs.Histories.{sheetOf, ofEdition, takenFrom, ownOf, replayFrom, replayOf, refusedWith, Unfilled}
+use Rattle.sheet.specs.Histories.{sheetOf, countAll, ofEdition, takenFrom, ownOf, replayFrom, replayOf, refusedWith, Unfilled}
 use Rattle.sheet.proofs.Counted.{refusals-le}
-use Rattle.sheet.proofs.Running.{countAll, taken-own, new-lane, new-refusals, new-grown, history-taken, history-few, history-grown}
+use Rattle.sheet.proofs.Running.{taken-own, new-lane, new-refusals, new-grown, history-taken, history-few, history-grown}
 use Rattle.sheet.proofs.Replay.{all-own, all-refused}
 use Rattle.sheet.proofs.Offering.{HasSlot, full-refuses, other-refuses, room-takes}
 use Rattle.header.specs.Patterns.{patternsOf}

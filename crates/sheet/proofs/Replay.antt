@@ -11,10 +11,10 @@ use Rattle.sheet.specs.declared.Sheet.{Sheet}
 use Rattle.sheet.specs.Records.{nextOf}
 use Rattle.sheet.specs.Lanes.{Role}
 use Rattle.sheet.specs.Sheets.{slotOf, laneAt, refusalsAt, countedOf, fullSheet}
-use Rattle.sheet.specs.Histories.{ownIn, ownOf, replayFrom, refusedWith}
+use Rattle.sheet.specs.Histories.{countAll, ownIn, ownOf, replayFrom, refusedWith}
 use Rattle.sheet.proofs.Offering.{frame-countable, HasSlot}
 use Rattle.sheet.proofs.Counted.{Grown, counted-own, counted-refusals}
-use Rattle.sheet.proofs.Running.{countAll, AllOwn, one-grown}
+use Rattle.sheet.proofs.Running.{AllOwn, one-grown}
 use Rattle.frame.specs.Frames.{Frame, frameOf}
 
 -- a lane is replayed by its own frames

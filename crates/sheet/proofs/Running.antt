@@ -14,7 +14,7 @@ use Rattle.sheet.specs.declared.Offered.{Offered}
 use Rattle.sheet.specs.Records.{silentLane}
 use Rattle.sheet.specs.Lanes.{Role, as-caller, as-responder, silent, framesOf}
 use Rattle.sheet.specs.Sheets.{recordsOf, refusalCounts, newSheet, sourceAt, laneAt, refusalsAt, countedOf, acceptedOf, refusedOf, heardOf, fullSheet, sameEdition, editionOf}
-use Rattle.sheet.specs.Histories.{runOf, sheetOf, ofEdition, takenFrom}
+use Rattle.sheet.specs.Histories.{runOf, sheetOf, countAll, ofEdition, takenFrom}
 use Rattle.sheet.proofs.Offering.{frame-countable, same-is, same-self, full-refuses, room-takes, other-stays}
 use Rattle.sheet.proofs.Counted.{Grown, counted-grown}
 use Rattle.base.proofs.OneMore.{sum-zeros}
@@ -46,11 +46,6 @@ module _ (own : Edition) where
     heard-is = new-heard;
     within = λ k role. rw (new-lane k role) (omega arith);
   }
-
--- a sheet after frames that it takes
-abbrev pub countAll : Sheet → List Frame → Sheet
-countAll sheet [] = sheet
-countAll sheet (f ∷ fs) = countAll (countedOf sheet (frameOf f)) fs
 
 -- frames that are all of the sheet's edition
 abbrev pub AllOwn : Edition → List Frame → Type 0

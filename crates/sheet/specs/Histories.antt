@@ -13,7 +13,7 @@ use Rattle.sheet.specs.declared.Lane.{Lane}
 use Rattle.sheet.specs.declared.Sheet.{Sheet}
 use Rattle.sheet.specs.Records.{silentLane, countLimit, nextOf}
 use Rattle.sheet.specs.Lanes.{Role, sentAs, recordOf}
-use Rattle.sheet.specs.Sheets.{refusalCounts, newSheet, laneAt, refusalsAt, fullSheet, sameEdition, editionOf, offerOf}
+use Rattle.sheet.specs.Sheets.{refusalCounts, newSheet, laneAt, refusalsAt, countedOf, fullSheet, sameEdition, editionOf, offerOf}
 
 -- a sheet after some frames, and the sheet grown from a new one
 abbrev pub runOf : Edition → Sheet → List Frame → Sheet
@@ -22,6 +22,11 @@ runOf own sheet (f ∷ fs) = runOf own (offerOf own sheet f .sheet) fs
 
 abbrev pub sheetOf : Edition → List Frame → Sheet
 sheetOf own history = runOf own (newSheet own) history
+
+-- a sheet that counts frames, whatever it has counted before
+abbrev pub countAll : Sheet → List Frame → Sheet
+countAll sheet [] = sheet
+countAll sheet (f ∷ fs) = countAll (countedOf sheet (frameOf f)) fs
 
 -- the frames of a history that are of the sheet's edition: any other "isn't in its total"
 abbrev pub ofEdition : Edition → List Frame → List Frame

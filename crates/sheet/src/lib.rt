@@ -23,6 +23,7 @@ use header::Answer;
 use header::Header;
 use header::Read;
 use header::Rules;
+pub use wide::WIDE_RECORDS;
 pub use wide::WideOffered;
 pub use wide::WideSheet;
 pub use wide::accepted_wide;
@@ -45,7 +46,7 @@ ghost use Rattle.sheet.specs.Lanes.{lanes, silent, hearOf, framesOf, rep
 ghost use Rattle.header.specs.Patterns.{beside};
 ghost use Rattle.sign.specs.Calls.{callOf};
 ghost use Rattle.frame.specs.Frames.{frame, signedFrame, frameWith};
-ghost use Rattle.sheet.specs.Sheets.{recordsOf, refusalCounts, slotOf, newSheet, acceptOf, countsAfter, sameEdition, acceptedOf, refusedOf, heardOf, fullSheet, fullOf, offerOf, displayOf};
+ghost use Rattle.sheet.specs.Sheets.{recordsOf, counted, refusalCounts, slotOf, newSheet, acceptOf, countsAfter, sameEdition, acceptedOf, refusedOf, heardOf, fullSheet, fullOf, offerOf, displayOf};
 
 // The records of a sheet of the flown edition: one for each SrcId that is not refused.
 pub const RECORDS: usize = header::LAST_FLOWN_SOURCE as usize + 1;
@@ -193,7 +194,7 @@ pub fn next(lane: Lane, fr_cnt_tx: u8, flips: u32) -> Lane
 }
 
 // A source's record after an accepted frame: the other lane stays as it is.
-fn hear(source: Source, header: Header, flips: u32) -> Source
+pub fn hear(source: Source, header: Header, flips: u32) -> Source
     ensures { λ r. ⌜ r ≡ hearOf source header flips ⌝ }
 {
     let called = source.caller;
@@ -225,6 +226,14 @@ fn accept(sheet: Sheet, header: Header, flips: u32) -> Sheet
     after
 }
 
+// The number that count k is of.
+pub fn counted_number(k: usize) -> u8
+    requires { ⌜ k < refusalCounts ⌝ }
+    ensures { λ r. ⌜ r ≡ getD counted k 0 ⌝ }
+{
+    COUNTED[k]
+}
+
 // The place of a number's count, or REFUSAL_COUNTS.
 fn slot(number: u8) -> usize
     ensures { λ r. ⌜ r ≡ slotOf number ⌝ }
@@ -240,7 +249,7 @@ fn slot(number: u8) -> usize
 }
 
 // The counts of refusals after a frame that was refused with a number. Where the number is not counted, they stay as they are.
-fn refuse(counts: [u32; REFUSAL_COUNTS], number: u8) -> [u32; REFUSAL_COUNTS]
+pub fn refuse(counts: [u32; REFUSAL_COUNTS], number: u8) -> [u32; REFUSAL_COUNTS]
     ensures { λ r. ⌜ r ≡ countsAfter counts number ⌝ }
 {
     let k = slot(number);
@@ -268,7 +277,7 @@ fn repaired(source: Source) -> u64
 }
 
 // A source's record with its sums.
-fn summed(source: Source) -> Display
+pub fn summed(source: Source) -> Display
     ensures { λ r. ⌜ r ≡ summedOf source ⌝ }
 {
     let caller = source.caller;

@@ -1,13 +1,14 @@
 -- What a read leaves, by how it went.
 -- Assumes nothing.
-use mathlib.Core.Path.{_≡_}
+use mathlib.Core.Path.{_≡_, refl}
+use mathlib.Core.Bool.{Bool, true, false}
 use mathlib.Core.List.{List}
 use Prim.Native.Nat.{ℕ, _<_}
 use native.Mathlib.Omega.{arith}
 use lib.ListN.{length}
 use Rattle.streams.specs.declared.Next.{Next}
 use Rattle.streams.specs.declared.Next.the-variants.{More, Done, Failed}
-use Rattle.streams.specs.Turns.{ReadOn}
+use Rattle.streams.specs.Turns.{ReadOn, readOn}
 
 -- three ways to go on
 pub done-more : Done ≡ More → ⊥
@@ -22,3 +23,10 @@ module _ (buf : List ℕ) (kept : ℕ) (inside : kept < length buf) where
 
   pub read-done : ReadOn buf kept (record { end = kept; next = Done })
   read-done = record { inside = omega arith; grown = λ e. absurd (done-more e) }
+
+-- more is read only where not all that is wanted has come
+pub read-open : (read : Next) (over : Bool) → readOn read over ≡ More → over ≡ false
+read-open read false e = refl
+read-open More true e = absurd (done-more e)
+read-open Done true e = absurd (done-more e)
+read-open Failed true e = absurd (failed-more e)

@@ -7,12 +7,18 @@ use Prim.Native.Nat.{ℕ, _<_, _≤_}
 use lib.ListN.{length}
 use Rattle.streams.specs.declared.Filled.{Filled}
 use Rattle.streams.specs.declared.Next.{Next}
-use Rattle.streams.specs.declared.Next.the-variants.{More, Failed}
+use Rattle.streams.specs.declared.Next.the-variants.{More, Done, Failed}
 
 -- what is in the buffer is within it, and more than was kept where there is more to read
 pub record ReadOn (buf : List ℕ) (kept : ℕ) (r : Filled) : Type 0 where
   pub inside : r .end ≤ length buf
   pub grown : r .next ≡ More → kept < r .end
+
+-- how to go on after a read: where all that is wanted has come, nothing more is read
+abbrev pub readOn : Next → Bool → Next
+readOn More over = cond over Done More
+readOn Done over = Done
+readOn Failed over = Failed
 
 -- how to go on after a read and the write that follows it
 abbrev pub onwardOf : Next → Bool → Next

@@ -4,7 +4,7 @@ use libc::STDOUT_FILENO;
 ghost use mathlib.Core.Path.{_≡_};
 ghost use Prim.Native.Nat.{_<_};
 ghost use lib.ListN.{length};
-ghost use Rattle.streams.specs.Turns.{ReadOn, onwardOf};
+ghost use Rattle.streams.specs.Turns.{ReadOn, readOn, onwardOf};
 
 // How to go on.
 pub enum Next {
@@ -57,6 +57,22 @@ pub fn write(bytes: &[u8]) -> bool {
     }
     os::fail(b"write");
     false
+}
+
+// How to go on after a read, where what came before may be all that is wanted. A failed read stays one.
+pub fn after_read(read: Next, over: bool) -> Next
+    ensures { λ r. ⌜ r ≡ readOn read over ⌝ }
+{
+    match read {
+        Next::More => {
+            if over {
+                return Next::Done;
+            }
+            Next::More
+        }
+        Next::Done => Next::Done,
+        Next::Failed => Next::Failed,
+    }
 }
 
 // How to go on after a read and the write that followed it.

@@ -4,4 +4,5 @@ pub mod Laid
 pub mod Copying
 pub mod Counting
 pub mod Spelling
+pub mod Fixed
 pub mod Sizes

@@ -2,7 +2,9 @@
 -- Assumes nothing.
 use mathlib.Core.Path.{_≡_}
 use mathlib.Core.List.{List, [], _∷_, _++_}
+use mathlib.Core.Bool.{cond}
 use Prim.Native.Nat.{ℕ, zero, suc, _+_, _/_, _%_, _≤_}
+use lib.Dec.{ltb}
 use Prim.Native.Char.{code}
 use Prim.Native.String.{String, [] as none, _∷_ as _then_}
 use lib.ListN.{length, take, drop}
@@ -25,6 +27,15 @@ digitsIn (suc most) (suc m) = digitsIn most (suc m / 10) ++ (digit (suc m % 10) 
 -- "Numbers are decimal": the digits of n / 10, never more than n, and then the last digit of n, which 0 has too
 unfoldable pub decimalOf : ℕ → List ℕ
 decimalOf n = digitsIn n (n / 10) ++ (digit (n % 10) ∷ [])
+
+-- the ASCII code of a digit of a base up to 16: that of "a" is 97
+abbrev pub letterOf : ℕ → ℕ
+letterOf d = cond (ltb d 10) (digit d) (87 + d)
+
+-- the last `width` digits of n in a base, with 0s in front where it has fewer
+unfoldable pub fixedOf : ℕ → ℕ → ℕ → List ℕ
+fixedOf base zero n = []
+fixedOf base (suc width) n = fixedOf base width (n / base) ++ (letterOf (n % base) ∷ [])
 
 -- the most digits that a number below 2 ^ 64 has
 abbrev pub mostDigits : ℕ

@@ -22,21 +22,23 @@ const HELD: u8 = 7;
 fn put_fields(reply: &mut Reply, f: Fields) -> usize
     ensures { λ r. do ⌜ r ≡ (← ⟦layout::VALUES⟧ .entry) + 14 ⌝ }
 {
-    reply[layout::VALUES] = f.src_id;
-    reply[layout::VALUES + 1] = f.dst_id;
-    reply[layout::VALUES + 2] = f.fr_cnt_tx;
-    reply[layout::VALUES + 3] = f.fr_cnt_rx;
-    reply[layout::VALUES + 4] = f.snr;
-    reply[layout::VALUES + 5] = f.ai_type_src;
-    reply[layout::VALUES + 6] = f.ai_type_dst;
-    reply[layout::VALUES + 7] = f.dfc_id;
-    reply[layout::VALUES + 8] = f.caller;
-    reply[layout::VALUES + 9] = f.arq;
-    reply[layout::VALUES + 10] = f.pdu_type_id;
-    reply[layout::VALUES + 11] = f.bch_rq;
-    reply[layout::VALUES + 12] = f.hailing;
-    reply[layout::VALUES + 13] = f.ud_fl1;
-    layout::VALUES + 14
+    let values = [
+        f.src_id,
+        f.dst_id,
+        f.fr_cnt_tx,
+        f.fr_cnt_rx,
+        f.snr,
+        f.ai_type_src,
+        f.ai_type_dst,
+        f.dfc_id,
+        f.caller,
+        f.arq,
+        f.pdu_type_id,
+        f.bch_rq,
+        f.hailing,
+        f.ud_fl1,
+    ];
+    numbers::put_bytes(reply, layout::VALUES, &values)
 }
 
 fn put_accepted(reply: &mut Reply, header: Header, flips: u32) {
@@ -150,7 +152,7 @@ fn write_at(record: &Record, reply: &mut [u8], at: usize, room: usize) -> Writte
     let payload = numbers::payload_at(record, layout::WRITES_RULE, &mut space);
     let out = &mut reply[at..at + room];
     numbers::fill(out, room, HELD, 0);
-    header::write_header(numbers::edition_of(record), fields_of(record), payload, out)
+    header_writer::write_header(numbers::edition_of(record), fields_of(record), payload, out)
 }
 
 pub fn write_reply(record: &Record, reply: &mut Reply) {

@@ -122,6 +122,19 @@ pub fn put_byte(reply: &mut Reply, at: usize, n: u8) -> usize
     at + 1
 }
 
+// Puts bytes one after the other.
+pub fn put_bytes(reply: &mut Reply, at: usize, bytes: &[u8]) -> usize
+    requires { do ⌜ at + length (now bytes) ≤ (← ⟦layout::REPLY_BYTES⟧) ⌝ }
+    ensures { λ r. ⌜ r ≡ at + length (now (bytes .entry)) ⌝ }
+{
+    let mut k = 0;
+    while k < bytes.len() {
+        reply[at + k] = bytes[k];
+        k += 1;
+    }
+    at + k
+}
+
 pub fn put_two(reply: &mut Reply, at: usize, n: u16) -> usize
     requires { do ⌜ at + 2 ≤ (← ⟦layout::REPLY_BYTES⟧) ⌝ }
     ensures { λ r. ⌜ r ≡ at + 2 ⌝ }

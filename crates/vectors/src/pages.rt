@@ -24,12 +24,15 @@ fn put_fields(reply: &mut Reply, f: PageFields) -> usize
     let next = numbers::put_two(reply, next, f.crc14);
     let next = numbers::put_byte(reply, next, f.fcid_major);
     let next = numbers::put_two(reply, next, f.fcid_sub);
-    let next = numbers::put_byte(reply, next, f.urgent);
-    let next = numbers::put_byte(reply, next, f.future);
-    let next = numbers::put_byte(reply, next, f.crc);
-    let next = numbers::put_byte(reply, next, f.multi_frame);
-    let next = numbers::put_byte(reply, next, f.time_tagged_setting);
-    let next = numbers::put_byte(reply, next, f.time_tagged);
+    let flags = [
+        f.urgent,
+        f.future,
+        f.crc,
+        f.multi_frame,
+        f.time_tagged_setting,
+        f.time_tagged,
+    ];
+    let next = numbers::put_bytes(reply, next, &flags);
     numbers::put_two(reply, next, f.frame_length)
 }
 
@@ -67,25 +70,13 @@ pub fn page_reply(record: &Record, reply: &mut Reply) {
 }
 
 fn rows_of(record: &Record) -> [i16; 17] {
-    [
-        numbers::signed_at(record, 0),
-        numbers::signed_at(record, 2),
-        numbers::signed_at(record, 4),
-        numbers::signed_at(record, 6),
-        numbers::signed_at(record, 8),
-        numbers::signed_at(record, 10),
-        numbers::signed_at(record, 12),
-        numbers::signed_at(record, 14),
-        numbers::signed_at(record, 16),
-        numbers::signed_at(record, 18),
-        numbers::signed_at(record, 20),
-        numbers::signed_at(record, 22),
-        numbers::signed_at(record, 24),
-        numbers::signed_at(record, 26),
-        numbers::signed_at(record, 28),
-        numbers::signed_at(record, 30),
-        numbers::signed_at(record, 32),
-    ]
+    let mut rows = [0i16; 17];
+    let mut r = 0;
+    while r < 17 {
+        rows[r] = numbers::signed_at(record, 2 * r);
+        r += 1;
+    }
+    rows
 }
 
 // Has a page written to a part of the reply, and answers what the writer does.

@@ -1,0 +1,52 @@
+-- For contracts inside: what the functions promise of a sheet, a tally and lent bytes.
+-- Assumes nothing.
+use mathlib.Core.Path.{_≡_}
+use mathlib.Core.List.{List}
+use Prim.Native.Nat.{ℕ, _-_}
+use lib.ListN.{length, take}
+use Rattle.header.specs.declared.Rules.{Rules}
+use Rattle.header.specs.declared.Answer.{Answer}
+use Rattle.header.specs.declared.Answer.the-variants.{Accepted, Refused}
+use Rattle.frame.specs.Frames.{frameOf}
+use Rattle.record.specs.Moves.{Moved}
+use Rattle.sheet.specs.declared.Source.{Source}
+use Rattle.sheet.specs.declared.wide.WideSheet.{WideSheet}
+use Rattle.sheet.specs.Lanes.{recordOf, hearOf}
+use Rattle.sheet.specs.Sheets.{countsAfter}
+use Rattle.sheet.specs.Wide.{held}
+use Rattle.lines.specs.declared.Tally.{Tally}
+use Rattle.listing.specs.Listing.{frameIn, tallyIn, scanOf}
+use Rattle.sheet_listing.specs.declared.Taken.{Taken}
+use Rattle.sheet_listing.specs.declared.Counted.{Counted}
+use Rattle.sheet_listing.specs.Pieces.{sheetAfter}
+
+-- the place of the record that an answer may change, that record after it, and the counts of refusals after it: an accepted frame changes its
+-- source's record, a refused one a count
+abbrev pub recordIn : Answer → ℕ
+recordIn (Accepted h flips) = recordOf h
+recordIn (Refused why) = 0
+
+abbrev pub heardBy : Source → Answer → Source
+heardBy source (Accepted h flips) = hearOf source h flips
+heardBy source (Refused why) = source
+
+abbrev pub refusedBy : List ℕ → Answer → List ℕ
+refusedBy counts (Accepted h flips) = counts
+refusedBy counts (Refused why) = countsAfter counts (why .number)
+
+-- a record with n payload bytes was read: its answer, and the tally after it
+pub record Takes (rules : Rules) (tally : Tally) (l : List ℕ) (n : ℕ) (r : Taken) : Type 0 where
+  pub answer-is : r .answer ≡ frameOf (frameIn rules n l)
+  pub tally-is : r .tally ≡ tallyIn rules tally n l
+
+-- some bytes were scanned: the sheet and the tally after their records, how many bytes are left, and whether the listing is over
+pub record Walked (rules : Rules) (start : WideSheet) (tally : Tally) (l : List ℕ) (r : Counted) : Type 0 where
+  pub sheet-is : held (r .sheet) ≡ sheetAfter rules (held start) tally l
+  pub tally-is : r .tally ≡ scanOf rules tally l .tally
+  pub left-is : r .left ≡ length (scanOf rules tally l .rest)
+  pub over-is : r .over ≡ scanOf rules tally l .over
+
+-- the first `end` bytes of a buffer were scanned, and what is left of them was moved to its front
+pub record Turns (rules : Rules) (start : WideSheet) (tally : Tally) (buf : List ℕ) (end : ℕ) (buf′ : List ℕ) (r : Counted) : Type 0 where
+  pub walked : Walked rules start tally (take end buf) r
+  pub kept : Moved buf (end - r .left) (r .left) buf′
