@@ -1,7 +1,7 @@
 """The front end: builds what a command needs on first use, and runs it. See README.md.
 
-Status 0; 1 where a read or a write failed, a replay found a difference, a strict listing was cut, or a field was refused; 2
-where a command or a file cannot be used. Ended by a signal, it ends by that signal.
+Status 0; 1 where a read or a write failed, a replay found a difference, a strict listing was cut, or a field or a payload
+was refused; 2 where a command or a file cannot be used. Ended by a signal, it ends by that signal.
 """
 
 import os
@@ -95,6 +95,18 @@ def beesat_set_command(words):
     return listing.list_all([*words_of("beesat_set"), *numbers], [name], program="beesat_set")
 
 
+def write_command(words):
+    import listing
+    import refusals
+    import writing
+
+    options, rest = taken(words, valued=writing.VALUED)
+    values = writing.values_of(rest)
+    payload, shown = writing.payload_of(options)
+    program = writing.program_words(words_of("write"), options.get("edition", listing.FLOWN), values)
+    return writing.write(program, payload, shown, refusals.read(TOP))
+
+
 def explain_command(words):
     import refusals
 
@@ -109,6 +121,10 @@ def replay_command(words):
     import listing
     import replay
 
+    if replay.WRITE in words:
+        _, rest = taken(words, flags=replay.WRITE_FLAGS)
+        numbers = replay.case_numbers(rest)
+        return replay.replay_writes(words_of("write"), independent_binary(), numbers)
     if replay.BEESAT in words:
         options, rest = taken(words, flags=replay.BEESAT_FLAGS, valued=replay.BEESAT_VALUED)
         season = replay.frames_words(options, rest)
@@ -147,6 +163,7 @@ COMMANDS = {
     "list": list_command,
     "sheet": sheet_command,
     "search": search_command,
+    "write": write_command,
     "beesat": beesat_command,
     "beesat-set": beesat_set_command,
     "explain": explain_command,

@@ -85,16 +85,21 @@ def list_taken(words, name, shown, file, program, counted, rows):
 
 
 def list_one(words, shown, file, program="list", **output):
-    """Hands one input to a program; answers whether it was read to its end, and neither refused nor, where that is asked, cut.
-
-    A program has no status of its own, so what it told says what happened.
-    """
+    """Hands one input to a program; answers whether that went well."""
 
     def hear(line):
         if not line.startswith(("write: ", "edition")):
             tell(f"{shown}: {line}")
 
     status, told = run(words, program, hear=hear, stdin=file, **output)
+    return went_well(status, told, program)
+
+
+def went_well(status, told, program):
+    """Whether a program that was run read its input to the end, and neither refused nor, where that is asked, cut.
+
+    A program has no status of its own, so what it told says what happened.
+    """
     for line in told:
         if line.startswith("write: "):
             raise Failed(line)

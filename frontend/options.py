@@ -51,11 +51,22 @@ def value_of(name, value, choices):
     raise Unusable(f"{name} takes {wanted}" + (f", not {value}" if value else ""))
 
 
-def whole_number(word, most=2**64 - 1):
-    """A whole number, in decimal digits."""
+def digits_of(word):
+    """The digits of a whole number, without zeros in front."""
     if not (word.isascii() and word.isdigit()):
         raise Unusable(f"not a whole number: {word}")
-    digits = word.lstrip("0") or "0"
+    return word.lstrip("0") or "0"
+
+
+def capped_number(word, most):
+    """A whole number, in decimal digits; the most where it is above that."""
+    digits = digits_of(word)
+    return most if len(digits) > len(str(most)) else min(int(digits), most)
+
+
+def whole_number(word, most=2**64 - 1):
+    """A whole number, in decimal digits."""
+    digits = digits_of(word)
     if len(digits) > len(str(most)) or int(digits) > most:
         raise Unusable(f"too large a number: {word}")
     return int(digits)

@@ -7,6 +7,7 @@ import re
 
 import leftovers
 import progress
+import writing
 from listing import EDITIONS, FLOWN, list_one
 from messages import DONE, FAILED, Failed, Unusable, say
 from options import only_one_of, whole_number
@@ -22,6 +23,9 @@ BEESAT_VALUED = {"--cut": ()}
 RECORDING = "--recording"
 RECORDING_FLAGS = (RECORDING, "--bad")
 RECORDING_VALUED = {"--edition": EDITIONS, "--gap": ()}
+# records written
+WRITE = "--write"
+WRITE_FLAGS = (WRITE,)
 LONGEST_GAP = 60000
 LONGEST_PAYLOAD = 1023
 LONGEST_REST = 143
@@ -72,6 +76,13 @@ def frames_words(options, rest):
     return with_options([str(whole_number(word)) for word in rest], {name: options[name] for name in options if f"--{name}" != BEESAT})
 
 
+def case_numbers(rest):
+    """The seed and the number of records that are to be written, or what is wrong with them."""
+    if len(rest) != 2:
+        raise Unusable("replay takes a seed and a number of records")
+    return [str(whole_number(word)) for word in rest]
+
+
 def with_options(words, options):
     for name, value in options.items():
         words += [f"--{name}"] if value is True else [f"--{name}", value]
@@ -99,6 +110,35 @@ def replay(list_words, independent, season, program="list"):
         with open(pass_, "rb") as file, open(expected, "wb") as out:
             made_by(independent, season.listed, "the independent listing", stdin=file, stdout=out, watch=progress.reading("the independent listing", file))
         return compare(listed, expected, season.wanted, season.called)
+
+
+def replay_writes(write_words, independent, numbers):
+    """Makes cases of records that are to be written, has both write them and compares every answer; answers the status."""
+    with leftovers.folder() as room:
+        cases, answers = (os.path.join(room, name) for name in ("cases", "answers"))
+        with open(cases, "wb") as out:
+            made_by(independent, ["write-season", *numbers], "making the cases", stdout=out)
+        with open(cases, "rb") as file, open(answers, "wb") as out:
+            made_by(independent, ["writes"], "the independent answers", stdin=file, stdout=out)
+        with open(cases, encoding="ascii") as file, open(answers, encoding="ascii") as expected:
+            return compare_writes(write_words, file, expected, numbers[1])
+
+
+def compare_writes(write_words, cases, expected, wanted):
+    """Has the program write each case, and holds what it answers against what was expected."""
+    refused = count = 0
+    for count, (case, other) in enumerate(zip(cases, expected), 1):
+        progress.step(f"{count:,} of {wanted} records written")
+        edition, *values, payload = case.split()
+        line = writing.answer(writing.program_words(write_words, edition, values), b"" if payload == "-" else bytes.fromhex(payload))
+        if line != other.rstrip():
+            say(f"first difference in record {count}: {case}  nolbreva:    {line}\n  independent: {other}")
+            return FAILED
+        refused += line.startswith("refused ")
+    if count != int(wanted):
+        raise Failed(f"the independent program answered {count} of {wanted} cases")
+    say(f"{count} records written, {refused} of them refused, no difference\n")
+    return DONE
 
 
 def compare(listed, expected, wanted, called="records"):

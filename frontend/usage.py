@@ -6,6 +6,7 @@ usage: nolbreva COMMAND [OPTION ..] [WORD ..]
   list [FILE ..]                the listing of standard input, or of each file
   sheet [FILE ..]               the pass sheet of standard input, or of each file
   search [FILE]                 the headers in a recording of bits, one a byte: standard input, or a file
+  write [FIELD=VALUE ..]        a record of these fields and of a payload, to standard output
   beesat [FILE]                 a line for each BEESAT-1 frame of standard input, or of a file
   beesat-set FIELD VALUE [FILE] the BEESAT-1 frame on standard input, or in a file, with one field written
   explain [NUMBER [PLACE]]      what a refusal means
@@ -14,8 +15,8 @@ usage: nolbreva COMMAND [OPTION ..] [WORD ..]
   help [COMMAND]                this text, or that of a command; so does --help after a command
   --version                     the version, the commit and the kit
 
-Status 0; 1 where a read or a write failed, a replay found a difference, a strict listing was cut, or a field was refused;
-2 where a command or a file cannot be used.
+Status 0; 1 where a read or a write failed, a replay found a difference, a strict listing was cut, or a field or a payload
+was refused; 2 where a command or a file cannot be used.
 """
 
 COMMANDS = {
@@ -51,6 +52,18 @@ above 1, or after 4294967295 bits, `stopped NUMBER INDEX` stands before the last
 
   --edition E    reads all headers under this edition: flown (S-NET; so where none is named) or corrected (SALSAT)
 """,
+    "write": """\
+usage: nolbreva write [--edition E] [FIELD=VALUE ..] [--payload HEX | --payload-file FILE]
+
+Writes one record to standard output: the payload's length, the 210 header bytes, and the payload. PduLength and both
+checksums are worked out. FIELD is SrcId, DstId, FrCntTx, FrCntRx, SNR, AiTypeSrc, AiTypeDst, DfcId, Caller, Arq, PduTypeId,
+BchRq, Hailing or UdFl1, in letters of any case; a field that is not named is 0. Where that is refused, the refusal and what
+it means are told on standard error, nothing is written, and the status is 1.
+
+  --edition E          writes under this edition: flown (S-NET; so where none is named) or corrected (SALSAT)
+  --payload HEX        the payload in hexadecimal digits, two a byte
+  --payload-file FILE  the payload is all of the file; the file - is standard input. Without either it is empty
+""",
     "beesat": """\
 usage: nolbreva beesat [--] [FILE]
 
@@ -74,6 +87,7 @@ place, what its place is; without a number, all of docs/REFUSALS.md's table.
     "replay": """\
 usage: nolbreva replay [--edition E] [--sheet] SEED N [OPTION ..]
        nolbreva replay --recording SEED N [--edition E] [--gap G] [--bad]
+       nolbreva replay --write SEED N
        nolbreva replay --beesat SEED N [--clean] [--cut L]
 
 Makes a season of N records by chance, the same for the same words, lists it by this program and by the independent one,
@@ -88,6 +102,8 @@ and compares every line. Status 1 where they differ.
   --cut KIND      then a rest that is no whole record: length, lone, header or payload (independent/README.md)
   --recording     a recording of N bits, searched, in place of records; --gap G: at most G bits of noise between markers and
                   headers, 0 to 60000; --bad: then a byte above 1, and more bits
+  --write         N records written by both from the same fields and payloads, at and past the limits too, every byte and
+                  every refusal compared
   --beesat        N frames of BEESAT-1 in place of records; --clean: only frames that read well; --cut L: then L bytes, 0 to 143
 """,
     "bench": """\

@@ -8,6 +8,9 @@ import refusals
 import usage
 from tests.repository import TOP
 
+WRITTEN = "./nolbreva write SrcId=2 FrCntTx=5 --payload 00ff | ./nolbreva list"
+WRITTEN_LISTING = "pass sheet\n0 accepted B radio 1 tx 5 repaired 0 worst 0 bytes 2\nheard 1 accepted 1 refused 0\n"
+
 
 def read(*names):
     with open(os.path.join(TOP, *names), encoding="utf-8") as file:
@@ -40,6 +43,10 @@ class Readme(unittest.TestCase):
         pass_, listing = (os.path.join("examples", "cases", f"corrected_pass.{end}") for end in ("in", "out"))
         self.assertIn(f"\n\n    ./nolbreva list --edition corrected {pass_}\n", self.readme)
         self.assertIn(f"\n\n{quoted(read(listing))}\n", self.readme)
+
+    def test_the_record_written(self):
+        # tests/built_write.py runs it
+        self.assertIn(f"\n\n    {WRITTEN}\n\nprints\n\n{quoted(WRITTEN_LISTING)}\n", self.readme)
 
     def test_the_frames_of_beesat_1(self):
         frames, listing, one = (os.path.join("examples", "cases", f"beesat_{name}") for name in ("frames.in", "frames.out", "one.in"))

@@ -21,6 +21,7 @@
 //! | [`totals`] | the text of a pass sheet |
 //! | [`catches`] | what CRC5 alone catches |
 //! | [`window`], [`search`] | a header behind its marker (21, editions), headers in a recording (19, 37) |
+//! | [`writing`] | one record written (14, 15), and cases to write |
 //! | [`beesat`] | BEESAT-1 frames read (25 to 28), one field written (38, 29), their listing |
 //!
 //! [`pieces`] takes input as it comes. The rest makes material to compare with: [`rng`], [`sample`], [`season`], [`recording`],
@@ -50,3 +51,4 @@ pub mod totals;
 pub mod vectors;
 pub mod window;
 pub mod word;
+pub mod writing;

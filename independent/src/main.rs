@@ -19,6 +19,7 @@ use independent::search::search;
 use independent::season::{write_season, Cut, Full, Options};
 use independent::totals::write_sheet;
 use independent::vectors::{self, compare, write_inputs, write_lines, write_replies, KINDS};
+use independent::writing::{self, answer_cases, edition_named, write_cases, Case};
 
 const USAGE: &str = "\
 usage: independent COMMAND ..
@@ -48,6 +49,9 @@ usage: independent COMMAND ..
                            a recording of N bits by chance
       --gap G              at most G bits of noise between markers and headers, 0 to 60000
       --bad                then a byte above 1, and more bits
+  write EDITION V0 .. V13  the record of fields 0 to 13 and of the payload on standard input
+  write-season SEED N      N cases of that by chance, a line each
+  writes                   the answers to the cases on standard input, a line each
   beesat [FILE]            a line for each BEESAT-1 frame of the file, or of standard input (-)
   beesat-set FIELD VALUE [FILE]
                            the frame with one field written; FIELD and VALUE are decimal digits
@@ -118,6 +122,13 @@ fn failed_write(error: io::Error) -> Stop {
     }
 }
 
+fn failed_read(error: io::Error) -> Stop {
+    Stop::Failed {
+        what: String::from("standard input"),
+        error,
+    }
+}
+
 /// Runs a command; false where some input could not be read or replies differ, which was told already.
 fn run(arguments: &[OsString], out: &mut Output) -> Result<bool, Stop> {
     let Some((command, rest)) = arguments.split_first() else {
@@ -137,6 +148,18 @@ fn run(arguments: &[OsString], out: &mut Output) -> Result<bool, Stop> {
         }
         Some("search") => return search_one(rest, out),
         Some("recording") => write_recording(&recording_options(rest)?, out),
+        Some("write") => return write_one(rest, out),
+        Some("write-season") => {
+            let mut rest = rest.iter();
+            let seed = number(rest.next(), "SEED", u64::MAX)?;
+            let cases = number(rest.next(), "N", u64::MAX)?;
+            no_more(rest.as_slice())?;
+            write_cases(seed, cases, out)
+        }
+        Some("writes") => {
+            no_more(rest)?;
+            return answers(out);
+        }
         Some("beesat") => {
             let (mut input, name) = input_of(rest)?;
             return listed(list_frames(&mut input, out), &name);
@@ -302,6 +325,42 @@ fn set_one(arguments: &[OsString], out: &mut Output) -> Result<bool, Stop> {
     }
 }
 
+/// Writes the record of some fields and of the payload on standard input; false where it was refused.
+fn write_one(arguments: &[OsString], out: &mut Output) -> Result<bool, Stop> {
+    let usage = || {
+        Stop::Usage(String::from(
+            "write takes flown or corrected and 14 numbers",
+        ))
+    };
+    let (named, numbers) = arguments.split_first().ok_or_else(usage)?;
+    let numbers: Result<Vec<u32>, Stop> =
+        numbers.iter().map(|number| digits(number, "V")).collect();
+    let mut case = Case {
+        edition: named.to_str().and_then(edition_named).ok_or_else(usage)?,
+        given: numbers?.try_into().map_err(|_| usage())?,
+        payload: Vec::new(),
+    };
+    let read = io::stdin().lock().read_to_end(&mut case.payload);
+    read.map_err(failed_read)?;
+    match writing::write_record(&case) {
+        Err(refusal) => {
+            tell(&refusal.to_string());
+            Ok(false)
+        }
+        Ok(record) => record.write_to(out).map(|()| true).map_err(failed_write),
+    }
+}
+
+/// Answers the cases on standard input.
+fn answers(out: &mut Output) -> Result<bool, Stop> {
+    let input = BufReader::with_capacity(BUFFER, io::stdin().lock());
+    if answer_cases(input, out).map_err(failed_read)? {
+        return Ok(true);
+    }
+    let wrong = io::Error::new(ErrorKind::InvalidData, "a line is no case");
+    Err(failed_read(wrong))
+}
+
 /// "Decimal digits; anything else, or above 4,294,967,295, is a usage error."
 fn digits(argument: &OsStr, name: &str) -> Result<u32, Stop> {
     argument
@@ -363,13 +422,10 @@ fn season_options(arguments: &[OsString]) -> Result<Options, Stop> {
 }
 
 fn edition(argument: Option<&OsString>) -> Result<Edition, Stop> {
-    match argument.and_then(|edition| edition.to_str()) {
-        Some("flown") => Ok(Edition::Flown),
-        Some("corrected") => Ok(Edition::Corrected),
-        _ => Err(Stop::Usage(String::from(
-            "--edition wants flown or corrected",
-        ))),
-    }
+    let named = argument.and_then(|edition| edition.to_str());
+    named
+        .and_then(edition_named)
+        .ok_or_else(|| Stop::Usage(String::from("--edition wants flown or corrected")))
 }
 
 fn cut_kind(argument: Option<&OsString>) -> Result<Cut, Stop> {

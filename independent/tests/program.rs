@@ -181,3 +181,43 @@ fn a_reader_that_goes_away_is_no_failure() {
     assert!(output.stderr.is_empty());
     assert!(output.status.success());
 }
+
+#[test]
+fn a_record_is_written_or_its_refusal_told() {
+    let zeros = ["0"; 14];
+    let write = |edition: &str, values: &[&str], payload: &[u8]| {
+        run(&[&["write", edition], values].concat(), payload)
+    };
+    let record = write("flown", &zeros, b"abc");
+    assert!(record.status.success() && record.stderr.is_empty());
+    let listing = run(&["list"], &record.stdout).stdout;
+    let expected = "pass sheet\n0 accepted A radio 1 tx 0 repaired 0 worst 0 bytes 3\nheard 1 accepted 1 refused 0\n";
+    assert_eq!(String::from_utf8(listing).unwrap(), expected);
+    let mut values = zeros;
+    values[0] = "8";
+    assert!(write("corrected", &values, b"").status.success());
+    let refused = write("flown", &values, b"");
+    assert_eq!(refused.stdout, b"");
+    assert_eq!(refused.stderr, b"independent: refused 14 0\n");
+    assert_eq!(refused.status.code(), Some(1));
+    let long = write("flown", &zeros, &[0; 5_000]);
+    assert_eq!(long.stderr, b"independent: refused 15 5000\n");
+    for wrong in [&zeros[1..], &["x"; 14], &["0"; 15]] {
+        assert_eq!(write("flown", wrong, b"").status.code(), Some(2));
+    }
+    assert_eq!(write("new", &zeros, b"").status.code(), Some(2));
+}
+
+#[test]
+fn cases_of_records_are_answered_line_by_line() {
+    let cases = run(&["write-season", "3", "40"], &[]).stdout;
+    let answers = run(&["writes"], &cases);
+    assert!(answers.status.success());
+    assert_eq!(
+        String::from_utf8(answers.stdout).unwrap().lines().count(),
+        40
+    );
+    let wrong = run(&["writes"], b"flown 1\n");
+    assert_eq!(wrong.status.code(), Some(1));
+    assert_eq!(run(&["write-season", "3"], &[]).status.code(), Some(2));
+}

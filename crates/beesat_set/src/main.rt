@@ -4,63 +4,14 @@ use base::NOT_144_BYTES;
 use base::Refusal;
 use base::Written;
 use libc::STDERR_FILENO;
-use streams::Filled;
+use options::Parsed;
+use options::number;
 use streams::Next;
-use streams::read_on;
+use streams::count_on;
+use streams::fill;
 use streams::write;
-ghost use mathlib.Core.Path.{_≡_};
-ghost use Prim.Native.Nat.{_<_, _≤_};
+ghost use Prim.Native.Nat.{_<_};
 ghost use lib.ListN.{length};
-ghost use Rattle.beesat_set.specs.Words.{digitOf, parsedOf};
-
-// The most that a word may say.
-const MOST: u64 = 0xFFFF_FFFF;
-
-// What a word says.
-enum Parsed {
-    Number(u32),
-    NoNumber,
-}
-
-// The number that some digits and one more make, or more than the most where that is no digit.
-fn next_number(number: u32, letter: u8) -> u64
-    ensures { λ r. ⌜ r ≡ digitOf number letter ⌝ }
-{
-    if letter < b'0' {
-        return MOST + 1;
-    }
-    if b'9' < letter {
-        return MOST + 1;
-    }
-    number as u64 * 10 + (letter - b'0') as u64
-}
-
-// The number that a word's decimal digits make.
-fn parse(word: &[u8]) -> Parsed
-    ensures { λ r. ⌜ r ≡ parsedOf (now (word .entry)) ⌝ }
-{
-    if word.len() == 0 {
-        return Parsed::NoNumber;
-    }
-    let mut number: u32 = 0;
-    let mut i = 0;
-    while i < word.len() {
-        let next = next_number(number, word[i]);
-        if MOST < next {
-            return Parsed::NoNumber;
-        }
-        number = next as u32;
-        i += 1;
-    }
-    Parsed::Number(number)
-}
-
-// What word i after the program's name says. A word that is not there, or is longer than any number, says none.
-fn said_by(i: usize) -> Parsed {
-    let mut room = io::buffer();
-    let n = os::arg(i, &mut room);
-    parse(&room[..n])
-}
 
 // Tells a refusal.
 fn tell(why: Refusal) {
@@ -81,56 +32,21 @@ fn set(frame: &mut [u8], field: u32, value: u32) {
     }
 }
 
-// Reads until the buffer is full or the input ends.
-fn fill(buf: &mut [u8]) -> Filled
-    ensures { λ r. ⌜ r .end ≤ length (now (buf .exit)) ⌝ }
-{
-    let mut end = 0;
-    while end < buf.len() {
-        let filled = read_on(buf, end);
-        let next = filled.next;
-        match next {
-            Next::More => {}
-            Next::Done => {
-                return filled;
-            }
-            Next::Failed => {
-                return filled;
-            }
-        }
-        end = filled.end;
-    }
-    Filled {
-        end,
-        next: Next::More,
-    }
-}
-
-// The whole input is longer than the buffer, which is longer than a frame: the rest of it is counted.
+// The whole input is longer than the buffer, which is longer than a frame.
 fn refuse_long(buf: &mut [u8])
     requires { ⌜ 0 < length (now buf) ⌝ }
 {
-    let mut size = buf.len();
-    let mut turns = u64::MAX;
-    while turns > 0 {
-        let filled = read_on(buf, 0);
-        let next = filled.next;
-        match next {
-            Next::More => {}
-            Next::Done => {
-                tell(Refusal {
-                    number: NOT_144_BYTES,
-                    place: size,
-                });
-                return;
-            }
-            Next::Failed => {
-                return;
-            }
+    let counted = count_on(buf);
+    let next = counted.next;
+    match next {
+        Next::More => {}
+        Next::Done => {
+            tell(Refusal {
+                number: NOT_144_BYTES,
+                place: counted.size,
+            });
         }
-        // a length past 2^64, which no input reaches, would wrap
-        size = std::num::wrapping_add_usize(size, filled.end);
-        turns -= 1;
+        Next::Failed => {}
     }
 }
 
@@ -152,11 +68,11 @@ fn set_input(field: u32, value: u32) {
 }
 
 fn main() {
-    let Parsed::Number(field) = said_by(1) else {
+    let Parsed::Number(field) = number(1) else {
         io::write_all(STDERR_FILENO, b"usage: beesat_set FIELD VALUE\n");
         return;
     };
-    let Parsed::Number(value) = said_by(2) else {
+    let Parsed::Number(value) = number(2) else {
         io::write_all(STDERR_FILENO, b"usage: beesat_set FIELD VALUE\n");
         return;
     };

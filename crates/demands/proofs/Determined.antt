@@ -20,6 +20,7 @@ use Rattle.header.specs.declared.Answer.{Answer}
 use Rattle.air.specs.WordRepairs.{worstOf}
 use Rattle.base.specs.declared.Edition.{Edition}
 use Rattle.base.specs.declared.Edition.the-variants.{Flown, Corrected}
+use Rattle.base.specs.declared.Refusal.{Refusal}
 use Rattle.base.specs.declared.Written.{Written}
 use Rattle.header.specs.Fields.{lastSourceOf, satelliteOf, radioOf}
 use Rattle.header.specs.Rules.{usualRules}
@@ -46,6 +47,8 @@ use Rattle.lines.specs.declared.Tally.{Tally}
 use Rattle.lines.specs.Tallies.{totalOf}
 use Rattle.record.specs.declared.Cut.{Cut}
 use Rattle.record.specs.Records.{cutOf}
+use Rattle.record_writer.specs.Writing.{afterRecord, RecordWritten}
+use Rattle.record_writer.specs.LongPayload.{wholeOf}
 use Rattle.page.specs.declared.PageAnswer.{PageAnswer}
 use Rattle.page.specs.declared.scaling.Scaling.{Scaling}
 use Rattle.page.specs.declared.scaling.ShownAnswer.{ShownAnswer}
@@ -209,6 +212,16 @@ full-wide-one sheet r s = one
 
 pub next-record-one : (rest : List ℕ) (r s : Cut) → r ≡ cutOf rest → s ≡ cutOf rest → r ≡ s
 next-record-one rest r s = one
+
+-- the answer, and every byte of the output afterwards
+pub write-record-one : (edition : Edition) (fields : Fields) (payload out : List ℕ) (r s : Written) (out-r out-s : List ℕ)
+    → RecordWritten edition fields payload out r out-r → RecordWritten edition fields payload out s out-s → (r ≡ s) × (out-r ≡ out-s)
+write-record-one edition fields payload out r s out-r out-s a b =
+    let answers : r ≡ s = one (a .answered) (b .answered) in
+    (answers, a .bytes ∙ ap (λ (w : Written). afterRecord w edition fields payload out) answers ∙ sym (b .bytes))
+
+pub of-whole-one : (why : Refusal) (size : ℕ) (r s : Refusal) → r ≡ wholeOf why size → s ≡ wholeOf why size → r ≡ s
+of-whole-one why size r s = one
 
 pub total-one : (tally : Tally) (r s : ℕ) → r ≡ totalOf tally → s ≡ totalOf tally → r ≡ s
 total-one tally r s = one

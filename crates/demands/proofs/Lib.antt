@@ -11,3 +11,4 @@ pub mod Determined
 pub mod CallSign
 pub mod Beesat
 pub mod PowerTable
+pub mod Recorded

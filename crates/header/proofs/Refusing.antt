@@ -27,7 +27,7 @@ module _ (edition : Edition) (f : Fields) (payload out : List ℕ) where
   gives-13 h = record { answered = rw (lt-ltb (length out) airBits h); bytes = refl }
 
   module _ (room : airBits ≤ length out) (over : ℕ) (found : over ≡ firstOver edition (valuesOf f)) where
-    past-13 : first Done (outOfRange edition f ∷ longPayload payload ∷ []) ≡ writeHeaderOf edition f payload (length out)
+    pub past-13 : first Done (outOfRange edition f ∷ longPayload payload ∷ []) ≡ writeHeaderOf edition f payload (length out)
     unfolding writeHeaderOf
     past-13 = rw (le-ltb (length out) airBits room)
 

@@ -2,7 +2,7 @@
 use libc::STDIN_FILENO;
 use libc::STDOUT_FILENO;
 ghost use mathlib.Core.Path.{_≡_};
-ghost use Prim.Native.Nat.{_<_};
+ghost use Prim.Native.Nat.{_<_, _≤_};
 ghost use lib.ListN.{length};
 ghost use Rattle.streams.specs.Turns.{ReadOn, readOn, onwardOf};
 
@@ -46,6 +46,65 @@ pub fn read_on(buf: &mut [u8], kept: usize) -> Filled
     let end = kept + n;
     Filled {
         end,
+        next: Next::More,
+    }
+}
+
+// Reads until the buffer is full or the input ends.
+pub fn fill(buf: &mut [u8]) -> Filled
+    ensures { λ r. ⌜ r .end ≤ length (now (buf .exit)) ⌝ }
+{
+    let mut end = 0;
+    while end < buf.len() {
+        let filled = read_on(buf, end);
+        let next = filled.next;
+        match next {
+            Next::More => {}
+            Next::Done => {
+                return filled;
+            }
+            Next::Failed => {
+                return filled;
+            }
+        }
+        end = filled.end;
+    }
+    Filled {
+        end,
+        next: Next::More,
+    }
+}
+
+// The length of a whole input, and how the last read went.
+pub struct Counted {
+    pub size: usize,
+    pub next: Next,
+}
+
+// Reads an input that has filled the buffer to its end, and counts all of it.
+pub fn count_on(buf: &mut [u8]) -> Counted
+    requires { ⌜ 0 < length (now buf) ⌝ }
+{
+    let mut size = buf.len();
+    let mut turns = u64::MAX;
+    while turns > 0 {
+        let filled = read_on(buf, 0);
+        let next = filled.next;
+        match next {
+            Next::More => {}
+            Next::Done => {
+                return Counted { size, next };
+            }
+            Next::Failed => {
+                return Counted { size, next };
+            }
+        }
+        // a length past 2^64, which no input reaches, would wrap
+        size = std::num::wrapping_add_usize(size, filled.end);
+        turns -= 1;
+    }
+    Counted {
+        size,
         next: Next::More,
     }
 }

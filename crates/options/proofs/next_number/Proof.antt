@@ -1,9 +1,9 @@
 -- `next_number` meets its contract, by what the letter is.
 -- Assumes nothing.
 use borrow.Author.Needs.{needs}
-use Rattle.beesat_set.proofs.Parsing.{below-digits, above-digits, a-digit}
-use Rattle.beesat_set.proofs.next_number.Statement.{statement}
-use Rattle.beesat_set.proofs.next_number.Tie as tie
+use Rattle.options.proofs.Parsing.{below-digits, above-digits, a-digit}
+use Rattle.options.proofs.next_number.Statement.{statement}
+use Rattle.options.proofs.next_number.Tie as tie
 
 add-result : tie.Need-add-result
 add-result c = search needs

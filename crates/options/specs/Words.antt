@@ -1,12 +1,12 @@
--- What the program's words say: "FIELD and VALUE are decimal digits", and no more than 4,294,967,295.
+-- What a word says that is to be a number: decimal digits, and no more than 4,294,967,295.
 -- Assumes nothing.
 use mathlib.Core.Bool.{_||_, cond}
 use mathlib.Core.List.{List, [], _∷_}
 use Prim.Native.Nat.{ℕ, _+_, _-_, _*_}
 use lib.Dec.{ltb}
 use Rattle.text.specs.Text.{digit}
-use Rattle.beesat_set.specs.declared.Parsed.{Parsed}
-use Rattle.beesat_set.specs.declared.Parsed.the-variants.{Number, NoNumber}
+use Rattle.options.specs.declared.Parsed.{Parsed}
+use Rattle.options.specs.declared.Parsed.the-variants.{Number, NoNumber}
 
 -- "4,294,967,295"
 abbrev pub most : ℕ

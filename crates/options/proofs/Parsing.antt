@@ -13,9 +13,9 @@ use borrow.Author.Tests.{lt-ltb, le-ltb}
 use mir.Syntax.{w32}
 use mir.Val.{Fits}
 use Rattle.text.specs.Text.{digit}
-use Rattle.beesat_set.specs.declared.Parsed.{Parsed}
-use Rattle.beesat_set.specs.declared.Parsed.the-variants.{Number, NoNumber}
-use Rattle.beesat_set.specs.Words.{most, digitOf, numberFrom, parsedOf}
+use Rattle.options.specs.declared.Parsed.{Parsed}
+use Rattle.options.specs.declared.Parsed.the-variants.{Number, NoNumber}
+use Rattle.options.specs.Words.{most, digitOf, numberFrom, parsedOf}
 
 -- one more letter: below the digits, above them, and a digit
 module _ (number letter : ℕ) where

@@ -3,9 +3,9 @@
 use Prim.Native.Nat.{_-_}
 use borrow.Author.Needs.{needs}
 use lib.ListN.{length}
-use Rattle.beesat_set.proofs.Parsing.{no-word, Parsing, starts, too-large, goes-on, ends}
-use Rattle.beesat_set.proofs.parse.Statement.{statement}
-use Rattle.beesat_set.proofs.parse.Tie as tie
+use Rattle.options.proofs.Parsing.{no-word, Parsing, starts, too-large, goes-on, ends}
+use Rattle.options.proofs.parse.Statement.{statement}
+use Rattle.options.proofs.parse.Tie as tie
 
 abbrev Inv-loop : tie.InvT-loop
 Inv-loop word number₀ i₀ number i = Parsing word number i

@@ -1,0 +1,4 @@
+pub mod Putting
+pub mod Answering
+pub mod ReadBack
+pub mod LongPayload
