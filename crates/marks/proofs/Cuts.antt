@@ -1,6 +1,6 @@
 -- "However the recording is cut, the reports are those of the whole."
 -- Assumes nothing.
-use mathlib.Core.Path.{_≡_, sym, ap, _∙_}
+use mathlib.Core.Path.{_≡_, refl, sym, ap, _∙_}
 use mathlib.Core.List.{List, [], _∷_, _++_, append-assoc, append-nil}
 use Prim.Native.Nat.{ℕ, _+_, _-_, _≤_}
 use native.Mathlib.Omega.{arith}
@@ -48,11 +48,11 @@ new-marks done piece =
     let e₀ : 0 + (length done - (windowBits - 1)) ≡ length done - (windowBits - 1) = omega arith in
     rw (e, e₀, kept-from zeros done piece zeros-long (length done - (windowBits - 1)) (length done - (windowBits - 1) + windowBits - length done) (omega arith) (omega arith))
 
-grows : (done piece : List ℕ) → movedOn (grown done) piece ≡ grown (done ++ piece)
+pub grows : (done piece : List ℕ) → movedOn (grown done) piece ≡ grown (done ++ piece)
 unfolding movedOn grown
 grows done piece = rw (kept-on zeros done piece zeros-long, length-append done piece)
 
-starts : freshState ≡ grown []
+pub starts : freshState ≡ grown []
 unfolding freshState grown
 starts = rw (append-nil zeros)
 
@@ -60,9 +60,16 @@ pub grown-long : (done : List ℕ) → length (grown done .bits) ≡ windowBits
 unfolding grown
 grown-long done = kept-long zeros done [] zeros-long
 
+pub grown-total : (done : List ℕ) → grown done .total ≡ length done
+unfolding grown
+grown-total done = refl
+
 -- one piece
+pub marks-grow : (done piece : List ℕ) → marksOf (done ++ piece) ≡ marksOf done ++ marksAt (grown done) piece 0
+marks-grow done piece = cut 0 done piece ∙ ap (λ (ms : List Mark). marksOf done ++ ms) (sym (new-marks done piece))
+
 by-verdict : (v : Verdict) (done piece : List ℕ) → marksOf (done ++ bitsBy v piece) ≡ marksOf done ++ marksBy v (grown done) piece
-by-verdict Accepted done piece = cut 0 done piece ∙ ap (λ (ms : List Mark). marksOf done ++ ms) (sym (new-marks done piece))
+by-verdict Accepted done piece = marks-grow done piece
 by-verdict (Refused why) done piece = rw (append-nil done, append-nil (marksOf done))
 
 grows-by : (v : Verdict) (done piece : List ℕ) → afterBy v (grown done) piece ≡ grown (done ++ bitsBy v piece)
@@ -109,3 +116,12 @@ however-cut pieces = rw starts (sym (marks-after [] pieces))
 -- "the last 242 bits are kept between pieces"
 pub however-kept : (pieces : List (List ℕ)) → allAfter freshState pieces ≡ grown (allBits freshState pieces)
 however-kept pieces = rw starts (state-after [] pieces)
+
+-- before the first piece
+pub no-marks : (s : State) → allMarks s [] ≡ []
+unfolding allMarks
+no-marks s = refl
+
+pub none-marked : marksOf [] ≡ []
+unfolding marksFrom
+none-marked = refl

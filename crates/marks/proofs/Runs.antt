@@ -15,7 +15,7 @@ use Rattle.marks.specs.declared.Mark.{Mark}
 use Rattle.marks.specs.declared.State.{State}
 use Rattle.marks.specs.declared.Verdict.the-variants.{Accepted, Refused}
 use Rattle.marks.specs.Marked.{windowBits, marksOf}
-use Rattle.marks.specs.Pieces.{longestRecording, freshState, movedOn, verdictOf, takenOf, allMarks, allAfter, allBits}
+use Rattle.marks.specs.Pieces.{longestRecording, freshState, movedOn, verdictOf, takenOf, marksAt, allMarks, allAfter, allBits}
 use Rattle.marks.specs.Reports.{Run, over, passed, taken}
 use Rattle.marks.proofs.Verdicts.{room, bits-accepted, total-after}
 use Rattle.marks.proofs.Asked.{got-all}
@@ -79,3 +79,8 @@ pub record LeftOut (s : State) (piece : List ℕ) (why : Refusal) (pieces : List
 pub left-out : (s : State) (piece : List ℕ) (why : Refusal) (pieces : List (List ℕ)) → verdictOf (s .total) piece ≡ Refused why → LeftOut s piece why pieces
 unfolding takenOf allMarks allAfter allBits
 left-out s piece why pieces e = record { answer = rw e; marks = rw e; state = rw e; bits = rw e }
+
+-- an accepted piece adds its marks
+pub marks-more : (s : State) (piece : List ℕ) (pieces : List (List ℕ)) → verdictOf (s .total) piece ≡ Accepted → allMarks s (piece ∷ pieces) ≡ marksAt s piece 0 ++ allMarks (movedOn s piece) pieces
+unfolding allMarks
+marks-more s piece pieces e = rw e

@@ -1,23 +1,29 @@
--- What is taken of the bits that were read, and what a report leaves.
+-- What is taken of the bits that were read, and what is counted of it.
 -- Assumes nothing.
 use mathlib.Core.Path.{_≡_}
-use mathlib.Core.Bool.{true, cond}
-use mathlib.Core.List.{List}
-use Prim.Native.Nat.{ℕ, _+_, _-_, _≤_, _<_}
+use mathlib.Core.Bool.{Bool, true, cond}
+use mathlib.Core.List.{List, _++_}
+use Prim.Native.Nat.{ℕ, _+_, _-_, _≤_}
 use lib.Dec.{ltb}
 use lib.ListN.{length, take}
+use Rattle.base.specs.declared.Edition.{Edition}
 use Rattle.base.specs.Checks.{refusal}
+use Rattle.text.specs.Text.{Put}
 use Rattle.air.specs.Air.{firstNoBit}
 use Rattle.marks.specs.declared.State.{State}
-use Rattle.marks.specs.declared.Step.{Step}
-use Rattle.marks.specs.Pieces.{longestRecording, movedOn}
-use Rattle.streams.specs.declared.Next.the-variants.{More}
+use Rattle.marks.specs.Marked.{marksOf}
+use Rattle.marks.specs.Pieces.{longestRecording, movedOn, grown, marksAt}
+use Rattle.streams.specs.declared.Next.{Next}
+use Rattle.streams.specs.declared.Next.the-variants.{More, Done, Failed}
+use Rattle.streams.specs.Turns.{onwardOf}
 use Rattle.lines.specs.declared.Tally.{Tally}
+use Rattle.lines.specs.Tallies.{nothingHeard, totalOf}
+use Rattle.lines.specs.Recordings.{endingOf}
+use Rattle.reporting.specs.Texts.{tallyOver}
+use Rattle.night.specs.declared.Progress.{Progress}
+use Rattle.night.specs.declared.Turned.{Turned}
 use Rattle.lines.specs.declared.Stop.{Stop}
 use Rattle.lines.specs.declared.Stop.the-variants.{Nowhere, Stopped}
-use Rattle.lines.specs.Tallies.{totalOf}
-use Rattle.lines.specs.Rooms.{lineRoom}
-use Rattle.night.specs.declared.Progress.{Progress}
 use Rattle.night.specs.declared.Taking.{Taking}
 
 -- how many of n bits fit a recording of so many
@@ -32,30 +38,55 @@ frontOf total bits = firstNoBit (take (fittingOf total (length bits)) bits)
 abbrev pub stopAfter : ℕ → ℕ → ℕ → ℕ → Stop
 stopAfter total n fits bits = cond (ltb n fits) (Stopped (refusal 19 (total + n))) (cond (ltb fits bits) (Stopped (refusal 37 longestRecording)) Nowhere)
 
+-- why no more of some bits is taken, after so many
+abbrev pub whyNoMore : ℕ → List ℕ → Stop
+whyNoMore total bits = stopAfter total (frontOf total bits) (fittingOf total (length bits)) (length bits)
+
+-- and what is taken of them
+abbrev pub takenBits : ℕ → List ℕ → List ℕ
+takenBits total bits = take (frontOf total bits) bits
+
 unfoldable pub takingOf : State → List ℕ → Taking
-takingOf s bits = record {
-  n = frontOf (s .total) bits;
-  state = movedOn s (take (frontOf (s .total) bits) bits);
-  stop = stopAfter (s .total) (frontOf (s .total) bits) (fittingOf (s .total) (length bits)) (length bits);
-}
+takingOf s bits = record { n = frontOf (s .total) bits; state = movedOn s (takenBits (s .total) bits); stop = whyNoMore (s .total) bits }
 
--- a mark that is found ends past the position, within a piece of n bits
-abbrev pub Past : ℕ → ℕ → Step → Type 0
-Past at n step = step .found ≡ true → (at < step .next) × (step .next ≤ n)
+-- how to go on after a stop, or none, and the write before it
+abbrev pub afterStop : Stop → Bool → Next
+afterStop Nowhere wrote = onwardOf More wrote
+afterStop (Stopped why) wrote = onwardOf Done wrote
 
--- a report: one header more is counted, and a further line has room
-pub record Reported (tally : Tally) (at room : ℕ) (r : Progress) : Type 0 where
-  pub counted : totalOf (r .tally) ≡ totalOf tally + 1
-  pub there : r .at ≡ at
-  pub left : r .to + lineRoom ≤ room
+-- where all writes went well, the headers of all marks of a piece are counted, each once; no more headers are counted than bits were passed
+pub record AllTold (edition : Edition) (s : State) (piece : List ℕ) (tally : Tally) (r : Progress) : Type 0 where
+  pub few : totalOf (r .tally) ≤ s .total + length piece
+  pub counted : r .wrote ≡ true → r .tally ≡ tallyOver edition tally (marksAt s piece 0)
 
--- after `total` bits, in a piece of n: no more headers are counted than bits were passed, and a further line has room
-pub record Within (total n room : ℕ) (so : Progress) : Type 0 where
-  pub few : totalOf (so .tally) ≤ total + so .at
-  pub inside : so .at ≤ n
-  pub left : so .to + lineRoom ≤ room
+-- bits were read: what can be taken is, its marks are told, and `stop` is why no more is taken
+pub record Moves (edition : Edition) (s : State) (tally : Tally) (bits : List ℕ) (r : Turned) : Type 0 where
+  pub few : totalOf (r .tally) ≤ r .state .total
+  pub state-is : r .state ≡ movedOn s (takenBits (s .total) bits)
+  pub stop-is : r .stop ≡ whyNoMore (s .total) bits
+  pub counted : (r .next ≡ Failed → ⊥) → r .tally ≡ tallyOver edition tally (marksAt s (takenBits (s .total) bits) 0)
 
--- and where there may be more marks, the position has gone on
-pub record Onward (total n room : ℕ) (so r : Progress) : Type 0 where
-  pub within : Within total n room r
-  pub on : r .next ≡ More → so .at < r .at
+-- the state after the bits of a recording, and the tally of the headers of all its marks
+pub record Heard (edition : Edition) (recording : List ℕ) (s : State) (tally : Tally) : Type 0 where
+  pub state-is : s ≡ grown recording
+  pub tally-is : tally ≡ tallyOver edition nothingHeard (marksOf recording)
+
+-- a turn takes what can be taken of the first `end` bytes of the buffer, and counts the headers of the marks that this adds, unless it fails
+pub record Goes (edition : Edition) (s : State) (tally : Tally) (buf : List ℕ) (r : Turned) : Type 0 where
+  pub end : ℕ
+  pub few : totalOf (r .tally) ≤ r .state .total
+  pub stop-is : r .stop ≡ whyNoMore (s .total) (take end buf)
+  pub heard : (r .next ≡ Failed → ⊥) → (recording : List ℕ) → Heard edition recording s tally
+      → Heard edition (recording ++ takenBits (s .total) (take end buf)) (r .state) (r .tally)
+
+-- all turns: bits were taken before the last bytes, and then what can be taken of these; `stop` is why no more of them was
+pub record Whole (edition : Edition) (r : Turned) : Type 0 where
+  pub before : List ℕ
+  pub bits : List ℕ
+  pub stop-is : r .stop ≡ whyNoMore (length before) bits
+  pub heard : Heard edition (before ++ takenBits (length before) bits) (r .state) (r .tally)
+
+-- the last line is put at the front of a buffer, where the search is done
+pub record Closing (end : Turned) (out out′ : List ℕ) : Type 0 where
+  pub to : ℕ
+  pub text : end .next ≡ Done → Put out 0 (endingOf (end .state .total) (end .tally) (end .stop)) out′ to

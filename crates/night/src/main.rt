@@ -1,5 +1,5 @@
 // Searches the recording on standard input for headers, after each read. It moves bits and does nothing else: marks, answers and text are
-// those of `marks`, `search` and `lines`.
+// those of `marks`, `search` and `reporting`.
 use base::Edition;
 use base::LONG_RECORDING;
 use base::NO_BIT_IN_PIECE;
@@ -7,9 +7,7 @@ use base::Refusal;
 use lines::Stop;
 use lines::Tally;
 use marks::LONGEST_RECORDING;
-use marks::Mark;
 use marks::State;
-use marks::Step;
 use streams::Next;
 use streams::after_write;
 use streams::read_on;
@@ -19,130 +17,50 @@ ghost use mathlib.Core.Path.{_≡_};
 ghost use Prim.Native.Nat.{_+_, _*_, _<_, _≤_};
 ghost use lib.ListN.{length};
 ghost use Rattle.word.specs.Repairs.{syndromes};
-ghost use Rattle.lines.specs.Tallies.{mostCounted, totalOf};
+ghost use Rattle.lines.specs.Tallies.{totalOf};
 ghost use Rattle.lines.specs.Rooms.{lineRoom};
 ghost use Rattle.marks.specs.Pieces.{longestRecording};
-ghost use Rattle.night.specs.Turns.{fittingOf, stopAfter, takingOf, Past, Reported, Within, Onward};
+ghost use Rattle.night.specs.Turns.{fittingOf, stopAfter, takingOf, afterStop, AllTold, Moves, Goes, Whole, Closing};
+ghost use Rattle.streams.specs.declared.Next.the-variants.{Done};
 
-// The room that a line may take.
-const LINE_ROOM: usize = 168;
-
-// How far the marks of a piece are reported: the tally, the place after the lines that are not yet written, the position in the piece,
-// and how to go on. It has failed where a write has, and is done where there are no more marks.
+// What a piece's lines leave: the tally, and whether all writes went well.
 struct Progress {
     tally: Tally,
-    to: usize,
-    at: usize,
-    next: Next,
+    wrote: bool,
 }
 
-// Puts the line of a mark that ends before `at`, and counts its header. Where a further line might not fit, what was put is written.
-fn report(
-    table: &[u16; TABLE_ROWS],
-    edition: Edition,
-    mark: Mark,
-    at: usize,
-    tally: Tally,
-    out: &mut [u8],
-    to: usize,
-) -> Progress
-    requires { ⌜ now table ≡ syndromes ⌝ }
-    requires { ⌜ totalOf tally < mostCounted ⌝ }
-    requires { ⌜ to + lineRoom ≤ length (now out) ⌝ }
-    ensures { λ r. ⌜ Reported tally at (length (now (out .entry))) r ⌝ }
-{
-    let read = search::read_mark_in(table, edition, mark);
-    let next = lines::put_report(out, to, edition, mark.place as u64, read);
-    let answer = read.answer;
-    let counted = lines::count(tally, answer);
-    if LINE_ROOM <= out.len() - next {
-        return Progress {
-            tally: counted,
-            to: next,
-            at,
-            next: Next::More,
-        };
-    }
-    let wrote = write(&out[..next]);
-    Progress {
-        tally: counted,
-        to: 0,
-        at,
-        next: after_write(Next::More, wrote),
-    }
-}
-
-// The next mark of a piece, past the position.
-fn next_mark(state: State, piece: &[u8], at: usize) -> Step
-    ensures { λ r. ⌜ Past at (length (now (piece .entry))) r ⌝ }
-{
-    marks::find(state, piece, at)
-}
-
-// Reports the next mark of a piece.
-fn report_next(
-    table: &[u16; TABLE_ROWS],
-    edition: Edition,
-    state: State,
-    piece: &[u8],
-    so: Progress,
-    out: &mut [u8],
-) -> Progress
-    requires { ⌜ now table ≡ syndromes ⌝ }
-    requires { ⌜ state .total + length (now piece) ≤ longestRecording ⌝ }
-    requires { ⌜ Within (state .total) (length (now piece)) (length (now out)) so ⌝ }
-    ensures { λ r. ⌜ Onward (state .total) (length (now (piece .entry))) (length (now (out .entry))) so r ⌝ }
-{
-    let at = so.at;
-    let tally = so.tally;
-    let to = so.to;
-    let step = next_mark(state, piece, at);
-    if !step.found {
-        return Progress {
-            tally,
-            to,
-            at,
-            next: Next::Done,
-        };
-    }
-    let mark = step.mark;
-    report(table, edition, mark, step.next, tally, out, to)
-}
-
-// Reports all marks of a piece.
+// Writes the lines of all marks of a piece, a buffer at a time.
 fn report_all(
     table: &[u16; TABLE_ROWS],
     edition: Edition,
     state: State,
     piece: &[u8],
-    tally: Tally,
+    start: Tally,
     out: &mut [u8],
 ) -> Progress
     requires { ⌜ now table ≡ syndromes ⌝ }
-    requires { ⌜ totalOf tally ≤ state .total ⌝ }
+    requires { ⌜ totalOf start ≤ state .total ⌝ }
     requires { ⌜ state .total + length (now piece) ≤ longestRecording ⌝ }
     requires { ⌜ lineRoom ≤ length (now out) ⌝ }
-    ensures { λ r. ⌜ Within (state .total) (length (now (piece .entry))) (length (now (out .entry))) r ⌝ }
+    ensures { λ r. ⌜ AllTold edition state (now (piece .entry)) start r ⌝ }
 {
-    let mut so = Progress {
-        tally,
-        to: 0,
-        at: 0,
-        next: Next::More,
-    };
+    let mut tally = start;
+    let mut at = 0;
     loop {
-        let done = report_next(table, edition, state, piece, so, out);
-        let next = done.next;
-        match next {
-            Next::More => {}
-            Next::Done => {
-                return done;
-            }
-            Next::Failed => {
-                return done;
-            }
+        let told = reporting::put_marks(table, edition, state, piece, at, tally, out);
+        let to = told.to;
+        let wrote = write(&out[..to]);
+        tally = told.tally;
+        if !wrote {
+            return Progress {
+                tally,
+                wrote: false,
+            };
         }
-        so = done;
+        if told.over {
+            return Progress { tally, wrote: true };
+        }
+        at = told.at;
     }
 }
 
@@ -200,15 +118,6 @@ fn take_front(state: State, bits: &[u8]) -> Taking
     }
 }
 
-// Writes the lines that are left, where no write has failed, and answers whether all went well.
-fn write_left(next: Next, text: &[u8]) -> bool {
-    match next {
-        Next::Failed => false,
-        Next::More => write(text),
-        Next::Done => write(text),
-    }
-}
-
 // What a turn leaves: the state, the tally, why the search stopped, and how to go on. It is done where it stopped too.
 struct Turned {
     state: State,
@@ -218,7 +127,9 @@ struct Turned {
 }
 
 // How to go on after a stop, or none, and the write before it.
-fn after_stop(stop: Stop, wrote: bool) -> Next {
+fn after_stop(stop: Stop, wrote: bool) -> Next
+    ensures { λ r. ⌜ r ≡ afterStop stop wrote ⌝ }
+{
     match stop {
         Stop::Nowhere => after_write(Next::More, wrote),
         Stop::Stopped(why) => after_write(Next::Done, wrote),
@@ -237,14 +148,11 @@ fn take_bits(
     requires { ⌜ now table ≡ syndromes ⌝ }
     requires { ⌜ totalOf tally ≤ state .total ⌝ }
     requires { ⌜ lineRoom ≤ length (now out) ⌝ }
-    ensures { λ r. ⌜ totalOf (r .tally) ≤ r .state .total ⌝ }
+    ensures { λ r. ⌜ Moves edition state tally (now (bits .entry)) r ⌝ }
 {
     let taking = take_front(state, bits);
     let n = taking.n;
     let done = report_all(table, edition, state, &bits[..n], tally, out);
-    let to = done.to;
-    let next = done.next;
-    let wrote = write_left(next, &out[..to]);
     let after = taking.state;
     let counted = done.tally;
     let stop = taking.stop;
@@ -252,7 +160,7 @@ fn take_bits(
         state: after,
         tally: counted,
         stop,
-        next: after_stop(stop, wrote),
+        next: after_stop(stop, done.wrote),
     }
 }
 
@@ -269,7 +177,7 @@ fn turn(
     requires { ⌜ totalOf tally ≤ state .total ⌝ }
     requires { ⌜ 0 < length (now buf) ⌝ }
     requires { ⌜ lineRoom ≤ length (now out) ⌝ }
-    ensures { λ r. ⌜ totalOf (r .tally) ≤ r .state .total ⌝ }
+    ensures { λ r. ⌜ Goes edition state tally (now (buf .exit)) r ⌝ }
 {
     let filled = read_on(buf, 0);
     let read = filled.next;
@@ -293,22 +201,36 @@ fn turn(
     }
 }
 
-// Writes the last line, after why the search stopped.
+// Writes the last line, after why the search stopped. There is none where it failed.
 fn finish(end: Turned, out: &mut [u8])
     requires { ⌜ 2 * lineRoom ≤ length (now out) ⌝ }
+    ensures { λ r. ⌜ Closing end (now (out .entry)) (now (out .exit)) ⌝ }
 {
-    let tally = end.tally;
-    let stop = end.stop;
-    let n = lines::put_ending(out, 0, end.state.total as u64, tally, stop);
-    write(&out[..n]);
+    let next = end.next;
+    match next {
+        Next::More => {}
+        Next::Failed => {}
+        Next::Done => {
+            let tally = end.tally;
+            let stop = end.stop;
+            let n = lines::put_ending(out, 0, end.state.total as u64, tally, stop);
+            write(&out[..n]);
+        }
+    }
 }
 
-// Searches the input, read by read. Where a read fails, the lines up to there are written, and no last line.
+// Searches the input, read by read, up to its end or to why no more is taken. Where a read fails, the lines up to there are written.
 // The turns are counted down from a number that no run uses up: each but the last reads a byte.
-fn search_input(table: &[u16; TABLE_ROWS], edition: Edition, buf: &mut [u8], out: &mut [u8])
+fn search_input(
+    table: &[u16; TABLE_ROWS],
+    edition: Edition,
+    buf: &mut [u8],
+    out: &mut [u8],
+) -> Turned
     requires { ⌜ now table ≡ syndromes ⌝ }
     requires { ⌜ 0 < length (now buf) ⌝ }
-    requires { ⌜ 2 * lineRoom ≤ length (now out) ⌝ }
+    requires { ⌜ lineRoom ≤ length (now out) ⌝ }
+    ensures { λ r. ⌜ (r .next ≡ Done → Whole edition r) ⌝ }
 {
     let mut state = marks::fresh();
     let mut tally = Tally {
@@ -322,16 +244,21 @@ fn search_input(table: &[u16; TABLE_ROWS], edition: Edition, buf: &mut [u8], out
         match next {
             Next::More => {}
             Next::Done => {
-                finish(done, out);
-                return;
+                return done;
             }
             Next::Failed => {
-                return;
+                return done;
             }
         }
         state = done.state;
         tally = done.tally;
         turns -= 1;
+    }
+    Turned {
+        state,
+        tally,
+        stop: Stop::Nowhere,
+        next: Next::Failed,
     }
 }
 
@@ -342,7 +269,8 @@ fn run(edition: Edition) {
     let mut out = io::large_buffer();
     let n = lines::put_heading(&mut out);
     if write(&out[..n]) {
-        search_input(&table, edition, &mut buf, &mut out);
+        let end = search_input(&table, edition, &mut buf, &mut out);
+        finish(end, &mut out);
     }
 }
 

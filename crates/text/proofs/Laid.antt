@@ -1,13 +1,13 @@
 -- Text laid over a list: none, one byte, the last byte first, and one text after another.
 -- Assumes nothing.
-use mathlib.Core.Path.{_≡_, refl, sym, _∙_}
+use mathlib.Core.Path.{_≡_, refl, sym, ap, _∙_}
 use mathlib.Core.List.{List, [], _∷_, _++_, append-assoc, append-nil}
 use Prim.Native.Nat.{ℕ, suc, _+_, _<_, _≤_}
 use native.Mathlib.Nat.{add-zero}
 use native.Mathlib.Numerals.{add-one}
 use native.Mathlib.Omega.{arith}
 use lib.ListN.{length, take, drop, set, length-append, take-append-drop}
-use lib.Seq.{length-take-le, take-at, drop-at, drop-drop, take-set-le, set-split, append-snoc}
+use lib.Seq.{length-take-le, take-at, take-append-seam, drop-at, drop-drop, take-set-le, set-split, append-snoc}
 use Rattle.text.specs.Text.{laid, Put}
 
 -- no text changes nothing: where a loop that puts text after text starts
@@ -58,3 +58,10 @@ put-then {l} {m} {n} {at} {p} {q} {a} {b} first second =
 -- three texts. (Where the first starts with known bytes `++` computes, and `search` does not find the law.)
 pub put-three : {l m n o : List ℕ} {at p q r : ℕ} {a b c : List ℕ} → Put l at a m p → Put m p b n q → Put n q c o r → Put l at (a ++ b ++ c) o r
 put-three i j k = put-then (put-then i j) k
+
+-- what was put at the front is what stands before the place after it
+pub put-front : {l m : List ℕ} {p : ℕ} {a : List ℕ} → Put l 0 a m p → take p m ≡ a
+unfolding laid
+put-front {l} {m} {p} {a} put =
+    let past : 0 + length a ≡ length a = omega arith in
+    rw (put .bytes, put .place) (ap (λ (n : ℕ). take n (a ++ drop n l)) past ∙ take-append-seam a (drop (length a) l))

@@ -1,44 +1,44 @@
--- `night::report_all` meets its contract, and ends: each mark stands past the last. Invariant: no more headers are counted than bits were passed, and a line has room.
+-- `night::report_all` meets its contract, and ends: each buffer passes a mark. Invariant: what is counted, and the marks that are left, make up all marks of the piece.
 -- Assumes nothing.
 use borrow.Author.Needs.{needs}
 use Prim.Native.Nat.{_-_}
 use lib.ListN.{length}
-use Rattle.night.proofs.Reporting.{Reporting, all-starts, still-within, all-ends, all-goes-on, all-less}
+use Rattle.night.proofs.Reporting.{Passing, all-starts, told-size, all-failed, all-over, all-less, all-goes-on}
 use Rattle.night.proofs.report_all.Statement.{statement}
 use Rattle.night.proofs.report_all.Tie as tie
 
 abbrev Inv-loop : tie.InvT-loop
-Inv-loop table edition state piece out₀ so₀ out so = Reporting (state .total) (length piece) (length out₀) out so
+Inv-loop table edition state piece out₀ tally₀ at₀ out tally at = Passing edition state piece tally₀ out₀ out tally at
 
 abbrev μ-loop : tie.MeasureT-loop
-μ-loop table edition state piece out₀ so₀ out so = length piece - so .at
+μ-loop table edition state piece out₀ tally₀ at₀ out tally at = length piece - at
 
 loop-holds : tie.Need-loop-holds Inv-loop μ-loop
 loop-holds c = search (needs, all-starts)
 
-report-next-requires : tie.Need-report-next-requires Inv-loop μ-loop
-report-next-requires c κs = search (needs, still-within)
+put-marks-requires : tie.Need-put-marks-requires Inv-loop μ-loop
+put-marks-requires c κs = (search needs, (search needs, (search needs, (search needs, search needs))))
 
-enum-told : tie.Need-enum-told Inv-loop μ-loop
-enum-told c = search needs
+slice-reshare-prefix-write : tie.Need-slice-reshare-prefix-write Inv-loop μ-loop
+slice-reshare-prefix-write c = search needs
 
-enum-told-2 : tie.Need-enum-told-2 Inv-loop μ-loop
-enum-told-2 c = search needs
+slice-aggregate-write : tie.Need-slice-aggregate-write Inv-loop μ-loop
+slice-aggregate-write c = search (needs, told-size)
+
+write-requires : tie.Need-write-requires Inv-loop μ-loop
+write-requires c κs = search needs
 
 same-length : tie.Need-same-length Inv-loop μ-loop
 same-length c = search needs
 
 returns : tie.Need-returns Inv-loop μ-loop
-returns c = search (needs, all-ends)
-
-enum-told-3 : tie.Need-enum-told-3 Inv-loop μ-loop
-enum-told-3 c = search needs
+returns c = search (needs, all-failed)
 
 same-length-2 : tie.Need-same-length-2 Inv-loop μ-loop
 same-length-2 c = search needs
 
 returns-2 : tie.Need-returns-2 Inv-loop μ-loop
-returns-2 c = search (needs, all-ends)
+returns-2 c = search (needs, all-over)
 
 loop-less : tie.Need-loop-less Inv-loop μ-loop
 loop-less c = search (needs, all-less)
@@ -53,12 +53,12 @@ report-all-spec =
     Inv-loop
     μ-loop
     loop-holds
-    report-next-requires
-    enum-told
-    enum-told-2
+    put-marks-requires
+    slice-reshare-prefix-write
+    slice-aggregate-write
+    write-requires
     same-length
     returns
-    enum-told-3
     same-length-2
     returns-2
     loop-less

@@ -38,6 +38,12 @@ slice-aggregate-search-input-2 c = search needs
 search-input-requires : tie.Need-search-input-requires
 search-input-requires c κs = (search needs, (search needs, search needs))
 
+slice-aggregate-finish : tie.Need-slice-aggregate-finish
+slice-aggregate-finish c = search needs
+
+finish-requires : tie.Need-finish-requires
+finish-requires c κs = search needs
+
 returns : tie.Need-returns
 returns c = search needs
 
@@ -59,5 +65,7 @@ run-spec =
     slice-aggregate-search-input
     slice-aggregate-search-input-2
     search-input-requires
+    slice-aggregate-finish
+    finish-requires
     returns
     returns-2)

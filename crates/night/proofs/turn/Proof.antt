@@ -1,7 +1,7 @@
 -- `night::turn` meets its contract.
 -- Assumes nothing.
 use borrow.Author.Needs.{needs}
-use Rattle.night.proofs.Turning.{read-size}
+use Rattle.night.proofs.Turning.{read-size, turn-more, turn-none}
 use Rattle.night.proofs.turn.Statement.{statement}
 use Rattle.night.proofs.turn.Tie as tie
 
@@ -33,19 +33,19 @@ same-length-2 : tie.Need-same-length-2
 same-length-2 c = search needs
 
 returns : tie.Need-returns
-returns c = search needs
+returns c = search (needs, turn-more)
 
 same-length-3 : tie.Need-same-length-3
 same-length-3 c = search needs
 
 returns-2 : tie.Need-returns-2
-returns-2 c = search needs
+returns-2 c = search (needs, turn-none)
 
 same-length-4 : tie.Need-same-length-4
 same-length-4 c = search needs
 
 returns-3 : tie.Need-returns-3
-returns-3 c = search needs
+returns-3 c = search (needs, turn-none)
 
 pub turn-spec : {M : Type 1} → statement M
 turn-spec =

@@ -1,0 +1,3 @@
+pub mod Texts
+pub mod Promises
+pub mod Searches
