@@ -76,6 +76,14 @@ def search_command(words):
     return listing.list_all(listing.with_options(words_of("night"), options), [name], program="night")
 
 
+def page_command(words):
+    import listing
+
+    _, files = taken(words)
+    name = listing.only(files)
+    return listing.list_all(words_of("page_list"), [name], program="page_list", counted="lines")
+
+
 def beesat_command(words):
     import listing
 
@@ -125,6 +133,9 @@ def replay_command(words):
         _, rest = taken(words, flags=replay.WRITE_FLAGS)
         numbers = replay.case_numbers(rest)
         return replay.replay_writes(words_of("write"), independent_binary(), numbers)
+    if replay.PAGE in words:
+        options, rest = taken(words, flags=replay.PAGE_FLAGS, valued=replay.PAGE_VALUED)
+        return replay.replay(words_of("page_list"), independent_binary(), replay.pages(options, rest), "page_list")
     if replay.BEESAT in words:
         options, rest = taken(words, flags=replay.BEESAT_FLAGS, valued=replay.BEESAT_VALUED)
         season = replay.frames_words(options, rest)
@@ -164,6 +175,7 @@ COMMANDS = {
     "sheet": sheet_command,
     "search": search_command,
     "write": write_command,
+    "page": page_command,
     "beesat": beesat_command,
     "beesat-set": beesat_set_command,
     "explain": explain_command,

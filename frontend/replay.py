@@ -13,8 +13,13 @@ from messages import DONE, FAILED, Failed, Unusable, say
 from options import only_one_of, whole_number
 from running import run
 
-FLAGS = ("--clean", "--full", "--full-exact", "--sheet")
+SEASON_FLAGS = ("--clean", "--full", "--full-exact")
+FLAGS = (*SEASON_FLAGS, "--sheet")
 VALUED = {"--edition": EDITIONS, "--payload": (), "--cut": ("length", "lone", "header", "payload")}
+# records whose payloads are power pages, and these listed
+PAGE = "--page"
+PAGE_FLAGS = (PAGE, *SEASON_FLAGS)
+PAGE_VALUED = {"--cut": VALUED["--cut"]}
 # a season of frames of BEESAT-1
 BEESAT = "--beesat"
 BEESAT_FLAGS = (BEESAT, "--clean")
@@ -38,6 +43,12 @@ Season = collections.namedtuple("Season", "made listed called wanted")
 def records(words, edition, command="list"):
     """A season of records under an edition, of which a listing or a pass sheet is made."""
     return Season(["season", *words], [command, "--edition", edition], "records", int(words[1]))
+
+
+def pages(options, rest):
+    """A season of records with power pages."""
+    words = season_words({name: options[name] for name in options if f"--{name}" != PAGE}, rest)
+    return Season(["season", *words, "--pages"], ["page"], "records", int(words[1]))
 
 
 def frames(words):
@@ -144,7 +155,8 @@ def compare_writes(write_words, cases, expected, wanted):
 def compare(listed, expected, wanted, called="records"):
     """Compares two listings line by line, and says what was compared."""
     lines, last, cut = 0, "", False
-    with open(listed, errors="replace", encoding="ascii") as ours, open(expected, errors="replace", encoding="ascii") as theirs:
+    form = {"encoding": "utf-8", "errors": "backslashreplace"}
+    with open(listed, **form) as ours, open(expected, **form) as theirs:
         for lines, (line, other) in enumerate(itertools.zip_longest(ours, theirs, fillvalue=""), 1):
             if line != other:
                 return differs(lines, line, other, "place" if called == "bits" else "record")

@@ -7,6 +7,7 @@ usage: nolbreva COMMAND [OPTION ..] [WORD ..]
   sheet [FILE ..]               the pass sheet of standard input, or of each file
   search [FILE]                 the headers in a recording of bits, one a byte: standard input, or a file
   write [FIELD=VALUE ..]        a record of these fields and of a payload, to standard output
+  page [FILE]                   the power pages of standard input, or of a file: names, raw and shown values, units
   beesat [FILE]                 a line for each BEESAT-1 frame of standard input, or of a file
   beesat-set FIELD VALUE [FILE] the BEESAT-1 frame on standard input, or in a file, with one field written
   explain [NUMBER [PLACE]]      what a refusal means
@@ -64,6 +65,15 @@ it means are told on standard error, nothing is written, and the status is 1.
   --payload HEX        the payload in hexadecimal digits, two a byte
   --payload-file FILE  the payload is all of the file; the file - is standard input. Without either it is empty
 """,
+    "page": """\
+usage: nolbreva page [--] [FILE]
+
+The power pages in the records of standard input, of the file, or of the file -, which is standard input. Whoever calls it says
+that the payloads are power pages of S-NET; the frames are read under the flown edition. For each accepted record whose
+payload reads as a power page a line with the source, and 17 lines, one a row: its name, the raw number and the spread S, the
+number shown with its unit, and the bits of the f64 in hex. Any other record has its refusal: 9 to 12 where its payload is no
+power page. The number shown is raw / S, exactly; for the four charger currents it is the nearest decimal of four places.
+""",
     "beesat": """\
 usage: nolbreva beesat [--] [FILE]
 
@@ -88,6 +98,7 @@ place, what its place is; without a number, all of docs/REFUSALS.md's table.
 usage: nolbreva replay [--edition E] [--sheet] SEED N [OPTION ..]
        nolbreva replay --recording SEED N [--edition E] [--gap G] [--bad]
        nolbreva replay --write SEED N
+       nolbreva replay --page SEED N [--clean] [--full] [--full-exact] [--cut KIND]
        nolbreva replay --beesat SEED N [--clean] [--cut L]
 
 Makes a season of N records by chance, the same for the same words, lists it by this program and by the independent one,
@@ -104,6 +115,7 @@ and compares every line. Status 1 where they differ.
                   headers, 0 to 60000; --bad: then a byte above 1, and more bits
   --write         N records written by both from the same fields and payloads, at and past the limits too, every byte and
                   every refusal compared
+  --page          records whose payloads are power pages, or nearly so, and their pages in place of the listing
   --beesat        N frames of BEESAT-1 in place of records; --clean: only frames that read well; --cut L: then L bytes, 0 to 143
 """,
     "bench": """\

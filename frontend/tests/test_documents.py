@@ -47,6 +47,10 @@ class Readme(unittest.TestCase):
     def test_the_record_written(self):
         # tests/built_write.py runs it
         self.assertIn(f"\n\n    {WRITTEN}\n\nprints\n\n{quoted(WRITTEN_LISTING)}\n", self.readme)
+    def test_the_power_pages(self):
+        pass_, listing = (os.path.join("examples", "cases", f"page_pass.{end}") for end in ("in", "out"))
+        self.assertIn(f"\n\n    ./nolbreva page {pass_}\n", self.readme)
+        self.assertIn(f"\n\n{quoted(read(listing))}\n", self.readme)
 
     def test_the_frames_of_beesat_1(self):
         frames, listing, one = (os.path.join("examples", "cases", f"beesat_{name}") for name in ("frames.in", "frames.out", "one.in"))

@@ -19,6 +19,7 @@
 //! | [`sheet`] | the pass sheet (17, 22), what it counts, its lanes |
 //! | [`listing`] | the listing |
 //! | [`totals`] | the text of a pass sheet |
+//! | [`pages`] | the listing of power pages |
 //! | [`catches`] | what CRC5 alone catches |
 //! | [`window`], [`search`] | a header behind its marker (21, editions), headers in a recording (19, 37) |
 //! | [`writing`] | one record written (14, 15), and cases to write |
@@ -37,6 +38,7 @@ pub mod frame;
 pub mod header;
 pub mod listing;
 pub mod page;
+pub mod pages;
 pub mod pieces;
 pub mod recording;
 pub mod refusal;

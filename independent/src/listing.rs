@@ -140,7 +140,7 @@ impl fmt::Display for Sender {
 
 /// What stood at the input's present place.
 #[derive(Debug, PartialEq, Eq)]
-enum Next {
+pub(crate) enum Next {
     /// A whole record, now in the buffer.
     Whole,
     /// Nothing.
@@ -150,14 +150,14 @@ enum Next {
 }
 
 /// Room for one record.
-struct RecordBuffer {
-    header: [u8; AIR_BITS],
+pub(crate) struct RecordBuffer {
+    pub(crate) header: [u8; AIR_BITS],
     payload: [u8; LONGEST_PAYLOAD],
     length: usize,
 }
 
 impl RecordBuffer {
-    fn new() -> RecordBuffer {
+    pub(crate) fn new() -> RecordBuffer {
         RecordBuffer {
             header: [0; AIR_BITS],
             payload: [0; LONGEST_PAYLOAD],
@@ -165,12 +165,12 @@ impl RecordBuffer {
         }
     }
 
-    fn payload(&self) -> &[u8] {
+    pub(crate) fn payload(&self) -> &[u8] {
         &self.payload[..self.length]
     }
 
     /// "A two-byte length, high byte first, 210 header bytes, that many payload bytes."
-    fn read_from(&mut self, input: &mut impl Read) -> io::Result<Next> {
+    pub(crate) fn read_from(&mut self, input: &mut impl Read) -> io::Result<Next> {
         let mut length = [0; 2];
         match read_full(input, &mut length)? {
             0 => return Ok(Next::End),

@@ -13,6 +13,7 @@ use independent::catches::write_catches;
 use independent::example::write_example;
 use independent::header::LONGEST_PAYLOAD;
 use independent::listing::{list, Failure};
+use independent::pages::list_pages;
 use independent::recording::{self, write_recording};
 use independent::rules::Edition;
 use independent::search::search;
@@ -32,6 +33,7 @@ usage: independent COMMAND ..
                            N records by chance; SEED and N are whole numbers
       --edition E          the edition that they are written under
       --payload L          all payloads have L bytes, 0 to 1023
+      --pages              the payloads are power pages, or nearly so
       --clean              only frames that are accepted, with light damage
       --full               65536 short records: they fill a sheet, and the last one cuts
       --full-exact         65535 short records
@@ -40,6 +42,7 @@ usage: independent COMMAND ..
                              lone     one byte of a length
                              header   a record that ends in its header bytes
                              payload  a record that ends in its payload
+  page [FILE]              the power pages of the records in the file, or on standard input (-)
   example                  the records of a small example pass
   catches                  which changes of a header CRC5 does not see, and what CRC13 does not
   search [--edition E] [FILE]
@@ -163,6 +166,10 @@ fn run(arguments: &[OsString], out: &mut Output) -> Result<bool, Stop> {
         Some("beesat") => {
             let (mut input, name) = input_of(rest)?;
             return listed(list_frames(&mut input, out), &name);
+        }
+        Some("page") => {
+            let (mut input, name) = input_of(rest)?;
+            return listed(list_pages(&mut BufReader::new(&mut input), out), &name);
         }
         Some("beesat-set") => return set_one(rest, out),
         Some("beesat-season") => beesat::season::write_season(&beesat_season_options(rest)?, out),
@@ -400,6 +407,7 @@ fn season_options(arguments: &[OsString]) -> Result<Options, Stop> {
         seed: number(rest.next(), "SEED", u64::MAX)?,
         records: number(rest.next(), "N", u64::MAX)?,
         payload: None,
+        pages: false,
         clean: false,
         cut: None,
         full: None,
@@ -411,6 +419,7 @@ fn season_options(arguments: &[OsString]) -> Result<Options, Stop> {
                 let length = number(rest.next(), "L", LONGEST_PAYLOAD as u64)?;
                 options.payload = Some(length as usize);
             }
+            Some("--pages") => options.pages = true,
             Some("--clean") => options.clean = true,
             Some("--full") => options.full = Some(Full::OneMore),
             Some("--full-exact") => options.full = Some(Full::Exact),

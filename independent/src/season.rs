@@ -8,6 +8,7 @@ use std::io::{self, Write};
 
 use crate::air::{AIR_BITS, WORDS};
 use crate::header::{largest, Field, Header, GIVEN, LONGEST_PAYLOAD};
+use crate::page::{PLAIN_HEADER, ROWS, ROW_BYTES, TAGGED_HEADER};
 use crate::rng::Rng;
 use crate::rules::Edition;
 use crate::sample::{burst, dress_as_page, flip_some, seal, Record, LONGEST_BURST};
@@ -24,6 +25,8 @@ pub struct Options {
     pub records: u64,
     /// One length for all payloads, at most 1,023.
     pub payload: Option<usize>,
+    /// Payloads that are power pages, or nearly so, in place of any.
+    pub pages: bool,
     /// Only frames that are accepted, some with up to three flips in some words.
     pub clean: bool,
     /// What stands after the whole records.
@@ -130,6 +133,7 @@ struct Season {
     rng: Rng,
     edition: Edition,
     payload: Option<usize>,
+    pages: bool,
     clean: bool,
     short: bool,
     /// "One frame counter as caller and another as responder", for each source: that of the Caller bit 0 stands first. A
@@ -150,6 +154,7 @@ impl Season {
             rng,
             edition: options.edition,
             payload: options.payload,
+            pages: options.pages,
             clean: options.clean,
             short: options.full.is_some(),
             counters,
@@ -199,6 +204,9 @@ impl Season {
     }
 
     fn fresh_payload(&mut self) -> Vec<u8> {
+        if self.pages && !self.short {
+            return self.fresh_page();
+        }
         let length = match self.payload {
             Some(length) => length,
             None if self.short => self.rng.below(4) as usize,
@@ -217,6 +225,39 @@ impl Season {
             0 => payload.fill(0x00),
             1 => payload.fill(0xFF),
             2..=9 if length >= 12 => dress_as_page(&mut payload),
+            _ => {}
+        }
+        payload
+    }
+
+    /// A payload that is a power page, with or without a time tag; some have too few user bytes, end early, or have another FrameLength.
+    fn fresh_page(&mut self) -> Vec<u8> {
+        let tagged = self.rng.one_in(2);
+        let head = if tagged { TAGGED_HEADER } else { PLAIN_HEADER };
+        let user = match self.rng.below(16) {
+            0 => self.rng.below(ROW_BYTES as u32) as usize,
+            1 => LONGEST_PAYLOAD - head,
+            2..=4 => ROW_BYTES,
+            // EPS standard telemetry
+            _ => 50,
+        };
+        let mut payload = self.rng.bytes(head + user);
+        for row in payload[head..].chunks_exact_mut(2).take(ROWS) {
+            match self.rng.below(16) {
+                0 => row.copy_from_slice(&i16::MIN.to_le_bytes()),
+                1 => row.copy_from_slice(&i16::MAX.to_le_bytes()),
+                2 => row.fill(0x00),
+                // small numbers of either sign
+                3..=6 => row[1] = row[0] % 2 * 0xFF,
+                _ => {}
+            }
+        }
+        payload[6] = payload[6] & 0xF8 | u8::from(tagged) << 2 | (user >> 8) as u8;
+        payload[7] = user as u8;
+        match self.rng.below(16) {
+            0 => payload.truncate(self.rng.below(PLAIN_HEADER as u32) as usize),
+            1 => payload.truncate(self.rng.within(8..=11) as usize),
+            2 => payload[7] ^= 1 << self.rng.below(8),
             _ => {}
         }
         payload

@@ -226,6 +226,7 @@ fn options(seed: u64, records: u64) -> Options {
         seed,
         records,
         payload: None,
+        pages: false,
         clean: false,
         cut: None,
         full: None,

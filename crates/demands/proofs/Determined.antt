@@ -45,6 +45,8 @@ use Rattle.sheet.specs.Lanes.{hearOf, summedOf}
 use Rattle.sheet.specs.Sheets.{newSheet, countsAfter, acceptedOf, refusedOf, heardOf, fullOf, offerOf, displayOf}
 use Rattle.lines.specs.declared.Tally.{Tally}
 use Rattle.lines.specs.Tallies.{totalOf}
+use Rattle.page_lines.specs.declared.Counts.{Counts}
+use Rattle.page_lines.specs.Counting.{recordsHeard}
 use Rattle.record.specs.declared.Cut.{Cut}
 use Rattle.record.specs.Records.{cutOf}
 use Rattle.record_writer.specs.Writing.{afterRecord, RecordWritten}
@@ -225,6 +227,9 @@ of-whole-one why size r s = one
 
 pub total-one : (tally : Tally) (r s : ℕ) → r ≡ totalOf tally → s ≡ totalOf tally → r ≡ s
 total-one tally r s = one
+
+pub heard-in-one : (counts : Counts) (r s : ℕ) → r ≡ recordsHeard counts → s ≡ recordsHeard counts → r ≡ s
+heard-in-one counts r s = one
 
 pub beesat-read-frame-one : (frame : List ℕ) (r s : FrameRead) → r ≡ readOf frame → s ≡ readOf frame → r ≡ s
 beesat-read-frame-one frame r s = one

@@ -187,7 +187,8 @@ fn put_accepted(
     put_damage(out, b, tx, flips, worst, name, n)
 }
 
-fn put_refused(out: &mut [u8], at: usize, k: u64, why: Refusal) -> usize
+// Puts the line of record k, which is refused.
+pub fn put_refused(out: &mut [u8], at: usize, k: u64, why: Refusal) -> usize
     requires { ⌜ at + lineRoom ≤ length (now out) ⌝ }
     ensures { λ r. ⌜ Put (now (out .entry)) at (refusedLine k why) (now (out .exit)) r ⌝ }
     ensures { λ r. ⌜ r ≤ at + lineRoom ⌝ }

@@ -1,0 +1,5 @@
+pub mod Names
+pub mod Values
+pub mod Counting
+pub mod Lines
+pub mod Rooms

@@ -1,0 +1,4 @@
+pub mod Taking
+pub mod Scanning
+pub mod Keeping
+pub mod Streaming
