@@ -1,7 +1,7 @@
 """The front end: builds what a command needs on first use, and runs it. See README.md.
 
-Status 0; 1 where a read or a write failed, a replay found a difference, a strict listing was cut, or a field or a payload
-was refused; 2 where a command or a file cannot be used. Ended by a signal, it ends by that signal.
+Status 0; 1 where a read or a write failed, a replay found a difference, a strict listing or an unpacking was cut, a line is
+wrong, or a field or a payload was refused; 2 where a command or a file cannot be used. Ended by a signal, it ends by that signal.
 """
 
 import os
@@ -115,6 +115,23 @@ def write_command(words):
     return writing.write(program, payload, shown, refusals.read(TOP))
 
 
+def unpack_command(words):
+    return text_command("unpack", words)
+
+
+def pack_command(words):
+    return text_command("pack", words)
+
+
+def text_command(program, words):
+    """Hands one input to the program of that name."""
+    import listing
+
+    _, files = taken(words)
+    name = listing.only(files)
+    return listing.list_all(words_of(program), [name], program=program)
+
+
 def explain_command(words):
     import refusals
 
@@ -140,6 +157,10 @@ def replay_command(words):
         options, rest = taken(words, flags=replay.BEESAT_FLAGS, valued=replay.BEESAT_VALUED)
         season = replay.frames_words(options, rest)
         return replay.replay(words_of("beesat_list"), independent_binary(), replay.frames(season), "beesat_list")
+    if replay.PACK in words:
+        options, rest = taken(words, flags=replay.PACK_FLAGS, valued=replay.PACK_VALUED)
+        season = replay.pack_words(options, rest)
+        return replay.replay_pack(words_of("unpack"), words_of("pack"), independent_binary(), season)
     if replay.RECORDING in words:
         options, rest = taken(words, flags=replay.RECORDING_FLAGS, valued=replay.RECORDING_VALUED)
         season = replay.recording(options, rest)
@@ -173,9 +194,11 @@ def help_command(words):
 COMMANDS = {
     "list": list_command,
     "sheet": sheet_command,
+    "page": page_command,
     "search": search_command,
     "write": write_command,
-    "page": page_command,
+    "unpack": unpack_command,
+    "pack": pack_command,
     "beesat": beesat_command,
     "beesat-set": beesat_set_command,
     "explain": explain_command,

@@ -96,7 +96,7 @@ def list_one(words, shown, file, program="list", **output):
 
 
 def went_well(status, told, program):
-    """Whether a program that was run read its input to the end, and neither refused nor, where that is asked, cut.
+    """Whether a program that was run read its input to the end, and neither refused, wrong nor, where that is asked, cut.
 
     A program has no status of its own, so what it told says what happened.
     """
@@ -107,4 +107,4 @@ def went_well(status, told, program):
             raise Unusable(line)
     if status != 0:
         raise Unusable(f"{program} could not be run (status {status})")
-    return not any(line.startswith(("read: ", "cut at byte ", "refused ")) for line in told)
+    return not any(line.startswith(("read: ", "cut at byte ", "refused ", "line ")) for line in told)

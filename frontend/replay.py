@@ -1,4 +1,4 @@
-"""The command `replay`: a season listed by this program and by the independent one, every line compared."""
+"""The command `replay`: a season listed by this program and by the independent one, every line compared; or unpacked and packed."""
 
 import collections
 import itertools
@@ -11,7 +11,7 @@ import writing
 from listing import EDITIONS, FLOWN, list_one
 from messages import DONE, FAILED, Failed, Unusable, say
 from options import only_one_of, whole_number
-from running import run
+from running import PIECE, run
 
 SEASON_FLAGS = ("--clean", "--full", "--full-exact")
 FLAGS = (*SEASON_FLAGS, "--sheet")
@@ -31,6 +31,10 @@ RECORDING_VALUED = {"--edition": EDITIONS, "--gap": ()}
 # records written
 WRITE = "--write"
 WRITE_FLAGS = (WRITE,)
+# records as lines of text, and back
+PACK = "--pack"
+PACK_FLAGS = (PACK,)
+PACK_VALUED = {"--payload": ()}
 LONGEST_GAP = 60000
 LONGEST_PAYLOAD = 1023
 LONGEST_REST = 143
@@ -92,6 +96,9 @@ def case_numbers(rest):
     if len(rest) != 2:
         raise Unusable("replay takes a seed and a number of records")
     return [str(whole_number(word)) for word in rest]
+def pack_words(options, rest):
+    """The words of a season that is unpacked, or what is wrong with them."""
+    return season_words({name: options[name] for name in options if f"--{name}" != PACK}, rest)
 
 
 def with_options(words, options):
@@ -150,6 +157,40 @@ def compare_writes(write_words, cases, expected, wanted):
         raise Failed(f"the independent program answered {count} of {wanted} cases")
     say(f"{count} records written, {refused} of them refused, no difference\n")
     return DONE
+def replay_pack(unpack_words, pack_words, independent, season):
+    """Makes a season, unpacks it and packs it again, each by both programs, and compares; answers the status."""
+    with leftovers.folder() as room:
+        pass_, text, other_text, packed, other_packed = (os.path.join(room, name) for name in ("pass", "text", "other", "packed", "back"))
+        with open(pass_, "wb") as out:
+            made_by(independent, ["season", *season], "making the season", stdout=out, watch=progress.writing("making the season", out))
+        for words, command, source, ours, theirs in (
+            (unpack_words, "unpack", pass_, text, other_text),
+            (pack_words, "pack", text, packed, other_packed),
+        ):
+            with open(source, "rb") as file, open(ours, "wb") as out:
+                if not list_one(words, "the season", file, command, stdout=out, watch=progress.reading(f"{command} of the season", file)):
+                    return FAILED
+            with open(source, "rb") as file, open(theirs, "wb") as out:
+                made_by(independent, [command], f"the independent {command}", stdin=file, stdout=out)
+        for one, other, what in ((text, other_text, "lines"), (packed, other_packed, "records"), (packed, pass_, "records packed and those of the season")):
+            if not same(one, other, what):
+                return FAILED
+        with open(text, "rb") as file:
+            say(f"{sum(1 for _ in file)} records unpacked and packed, no difference\n")
+        return DONE
+
+
+def same(one, other, what):
+    """Whether two files have the same bytes; says where they differ first."""
+    with open(one, "rb") as ours, open(other, "rb") as theirs:
+        for at in itertools.count(0, PIECE):
+            piece, expected = ours.read(PIECE), theirs.read(PIECE)
+            if piece != expected:
+                first = next((k for k, (a, b) in enumerate(zip(piece, expected)) if a != b), min(len(piece), len(expected)))
+                say(f"the {what} differ first in byte {at + first}\n")
+                return False
+            if not piece:
+                return True
 
 
 def compare(listed, expected, wanted, called="records"):

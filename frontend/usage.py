@@ -5,9 +5,11 @@ usage: nolbreva COMMAND [OPTION ..] [WORD ..]
 
   list [FILE ..]                the listing of standard input, or of each file
   sheet [FILE ..]               the pass sheet of standard input, or of each file
+  page [FILE]                   the power pages of standard input, or of a file: names, raw and shown values, units
   search [FILE]                 the headers in a recording of bits, one a byte: standard input, or a file
   write [FIELD=VALUE ..]        a record of these fields and of a payload, to standard output
-  page [FILE]                   the power pages of standard input, or of a file: names, raw and shown values, units
+  unpack [FILE]                 the records of standard input, or of a file, as lines of text
+  pack [FILE]                   such lines, also made by hand, as records
   beesat [FILE]                 a line for each BEESAT-1 frame of standard input, or of a file
   beesat-set FIELD VALUE [FILE] the BEESAT-1 frame on standard input, or in a file, with one field written
   explain [NUMBER [PLACE]]      what a refusal means
@@ -16,8 +18,8 @@ usage: nolbreva COMMAND [OPTION ..] [WORD ..]
   help [COMMAND]                this text, or that of a command; so does --help after a command
   --version                     the version, the commit and the kit
 
-Status 0; 1 where a read or a write failed, a replay found a difference, a strict listing was cut, or a field or a payload
-was refused; 2 where a command or a file cannot be used.
+Status 0; 1 where a read or a write failed, a replay found a difference, a strict listing or an unpacking was cut, a line is
+wrong, or a field or a payload was refused; 2 where a command or a file cannot be used.
 """
 
 COMMANDS = {
@@ -44,6 +46,15 @@ frames it was given to; `cut` where the listing has it; and the listing's last l
   --edition E    reads all frames under this edition: flown (S-NET; so where none is named) or corrected (SALSAT)
   --names        puts the line '==> NAME <==' before each sheet
 """,
+    "page": """\
+usage: nolbreva page [--] [FILE]
+
+The power pages in the records of standard input, of the file, or of the file -, which is standard input. Whoever calls it says
+that the payloads are power pages of S-NET; the frames are read under the flown edition. For each accepted record whose
+payload reads as a power page a line with the source, and 17 lines, one a row: its name, the raw number and the spread S, the
+number shown with its unit, and the bits of the f64 in hex. Any other record has its refusal: 9 to 12 where its payload is no
+power page. The number shown is raw / S, exactly; for the four charger currents it is the nearest decimal of four places.
+""",
     "search": """\
 usage: nolbreva search [--edition E] [--] [FILE]
 
@@ -65,14 +76,20 @@ it means are told on standard error, nothing is written, and the status is 1.
   --payload HEX        the payload in hexadecimal digits, two a byte
   --payload-file FILE  the payload is all of the file; the file - is standard input. Without either it is empty
 """,
-    "page": """\
-usage: nolbreva page [--] [FILE]
+    "unpack": """\
+usage: nolbreva unpack [--] [FILE]
 
-The power pages in the records of standard input, of the file, or of the file -, which is standard input. Whoever calls it says
-that the payloads are power pages of S-NET; the frames are read under the flown edition. For each accepted record whose
-payload reads as a power page a line with the source, and 17 lines, one a row: its name, the raw number and the spread S, the
-number shown with its unit, and the bits of the f64 in hex. Any other record has its refusal: 9 to 12 where its payload is no
-power page. The number shown is raw / S, exactly; for the four charger currents it is the nearest decimal of four places.
+A line of text for each record of standard input, of the file, or of the file -, which is standard input: the 210 header
+bytes as digits 0 and 1, or as 420 hex digits where one of them is above 1; then, where there is a payload, a space and two
+hex digits for each of its bytes. Where what is left is no record, at which byte and why is told, and the status is 1.
+""",
+    "pack": """\
+usage: nolbreva pack [--] [FILE]
+
+The way back: a record for each line of standard input, of the file, or of the file -, which is standard input. Empty lines
+and those that start with # are passed over; hex digits may be capitals; a carriage return before the line feed is taken, and
+so is a last line without one. A line has at most 4,095 letters. Where a line is wrong, line, column and cause are told, the
+records before it are written, and the status is 1.
 """,
     "beesat": """\
 usage: nolbreva beesat [--] [FILE]
@@ -100,6 +117,7 @@ usage: nolbreva replay [--edition E] [--sheet] SEED N [OPTION ..]
        nolbreva replay --write SEED N
        nolbreva replay --page SEED N [--clean] [--full] [--full-exact] [--cut KIND]
        nolbreva replay --beesat SEED N [--clean] [--cut L]
+       nolbreva replay --pack SEED N [--payload L]
 
 Makes a season of N records by chance, the same for the same words, lists it by this program and by the independent one,
 and compares every line. Status 1 where they differ.
@@ -116,6 +134,7 @@ and compares every line. Status 1 where they differ.
   --write         N records written by both from the same fields and payloads, at and past the limits too, every byte and
                   every refusal compared
   --page          records whose payloads are power pages, or nearly so, and their pages in place of the listing
+  --pack          the records unpacked by both programs and packed again by both, and compared with the season
   --beesat        N frames of BEESAT-1 in place of records; --clean: only frames that read well; --cut L: then L bytes, 0 to 143
 """,
     "bench": """\

@@ -51,6 +51,8 @@ class Table(unittest.TestCase):
     def test_stored_refusals_are_in_it(self):
         seen = set()
         listings = [os.path.join("examples", "listing"), os.path.join("crates", "list", "stdout"), *glob.glob(os.path.join(TOP, "examples", "cases", "*.out"))]
+        # what `pack` writes is no text
+        listings = [name for name in listings if not os.path.basename(name).startswith("pack_")]
         for name in listings:
             for number, place in re.findall(r"refused (\d+) (\d+)\b", read(name)):
                 seen.add((int(number), int(place)))

@@ -20,6 +20,7 @@
 //! | [`listing`] | the listing |
 //! | [`totals`] | the text of a pass sheet |
 //! | [`pages`] | the listing of power pages |
+//! | [`packing`] | records as lines of text, and back |
 //! | [`catches`] | what CRC5 alone catches |
 //! | [`window`], [`search`] | a header behind its marker (21, editions), headers in a recording (19, 37) |
 //! | [`writing`] | one record written (14, 15), and cases to write |
@@ -37,6 +38,7 @@ pub mod example;
 pub mod frame;
 pub mod header;
 pub mod listing;
+pub mod packing;
 pub mod page;
 pub mod pages;
 pub mod pieces;

@@ -190,7 +190,7 @@ impl RecordBuffer {
 }
 
 /// Reads until the buffer is full or the input ends, and tells how many bytes came.
-fn read_full(input: &mut impl Read, buffer: &mut [u8]) -> io::Result<usize> {
+pub(crate) fn read_full(input: &mut impl Read, buffer: &mut [u8]) -> io::Result<usize> {
     let mut filled = 0;
     while filled < buffer.len() {
         match input.read(&mut buffer[filled..]) {

@@ -14,6 +14,7 @@ use independent::example::write_example;
 use independent::header::LONGEST_PAYLOAD;
 use independent::listing::{list, Failure};
 use independent::pages::list_pages;
+use independent::packing::{pack, unpack};
 use independent::recording::{self, write_recording};
 use independent::rules::Edition;
 use independent::search::search;
@@ -62,6 +63,8 @@ usage: independent COMMAND ..
                            N BEESAT-1 frames by chance
       --clean              only frames that read well
       --cut L              then L bytes of one more frame, 0 to 143
+  unpack [FILE]            the records of the file, or of standard input (-), as lines of text
+  pack [FILE]              such lines as records
   vectors KIND [SEED]      a line for each input of KIND
   inputs KIND [SEED]       the inputs themselves, in binary
   replies KIND [SEED]      the replies to them, in binary
@@ -173,6 +176,15 @@ fn run(arguments: &[OsString], out: &mut Output) -> Result<bool, Stop> {
         }
         Some("beesat-set") => return set_one(rest, out),
         Some("beesat-season") => beesat::season::write_season(&beesat_season_options(rest)?, out),
+        Some("unpack") => {
+            let (input, name) = input_of(rest)?;
+            let cut = unpack(&mut BufReader::with_capacity(BUFFER, input), out);
+            return told(cut, &name);
+        }
+        Some("pack") => {
+            let (mut input, name) = input_of(rest)?;
+            return told(pack(&mut input, out), &name);
+        }
         Some("vectors") => {
             let (kind, seed) = vector_arguments(rest)?;
             write_lines(kind, seed, out)
@@ -252,6 +264,21 @@ fn listed(result: Result<(), Failure>, name: &str) -> Result<bool, Stop> {
             Ok(false)
         }
         Err(Failure::Write(error)) => Err(failed_write(error)),
+    }
+}
+
+/// What came of an input that may stop being well: false where it did, or could not be read to its end.
+fn told<T: std::fmt::Display>(
+    result: Result<Option<T>, Failure>,
+    name: &str,
+) -> Result<bool, Stop> {
+    match result {
+        Ok(None) => Ok(true),
+        Ok(Some(wrong)) => {
+            tell(&wrong.to_string());
+            Ok(false)
+        }
+        Err(failure) => listed(Err(failure), name),
     }
 }
 

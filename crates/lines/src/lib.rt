@@ -1,13 +1,8 @@
 // The text of every line, put into a lent slice at a place. Each function answers the place after what it put.
-mod recording;
-
 use base::Edition;
 use base::Refusal;
 use header::Answer;
 use header::Read;
-pub use recording::put_ending;
-pub use recording::put_heading;
-pub use recording::put_report;
 ghost use mathlib.Core.Path.{_≡_};
 ghost use mathlib.Core.List.{_++_};
 ghost use Prim.Native.Nat.{_+_, _*_, _<_, _≤_};
@@ -165,7 +160,8 @@ fn put_damage(
     text::put_field(out, a, n as u64, b"\n")
 }
 
-fn put_accepted(
+// Puts the line of an accepted record or header.
+pub fn put_accepted(
     out: &mut [u8],
     at: usize,
     edition: Edition,
@@ -247,7 +243,7 @@ pub fn put_title(out: &mut [u8]) -> usize
 }
 
 // Puts the end of a last line: all that was heard, and of these the accepted and the refused.
-fn put_counts(out: &mut [u8], at: usize, tally: Tally) -> usize
+pub fn put_counts(out: &mut [u8], at: usize, tally: Tally) -> usize
     requires { ⌜ at + countsRoom ≤ length (now out) ⌝ }
     ensures { λ r. ⌜ Put (now (out .entry)) at (countsOf tally) (now (out .exit)) r ⌝ }
 {

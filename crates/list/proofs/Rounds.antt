@@ -1,7 +1,7 @@
 -- The program's turns: the buffers keep their lengths, and there is room to read on.
 -- Assumes nothing.
 use mathlib.Core.Path.{_≡_, refl, sym, ap, _∙_}
-use mathlib.Core.Bool.{Bool, true, false}
+use mathlib.Core.Bool.{Bool}
 use mathlib.Core.List.{List}
 use Prim.Native.Nat.{ℕ, _<_, _≤_}
 use native.Mathlib.Omega.{arith}
@@ -16,14 +16,9 @@ use Rattle.listing.proofs.Keeping.{left-inside, left-short}
 use Rattle.streams.specs.declared.Next.{Next}
 use Rattle.streams.specs.declared.Next.the-variants.{More}
 use Rattle.streams.specs.Turns.{readOn, onwardOf}
-use Rattle.streams.proofs.Reading.{failed-more, read-open}
+use Rattle.streams.proofs.Reading.{more-open}
 use Rattle.list.specs.declared.State.{State}
 use Rattle.list.specs.Turns.{Turned}
-
--- more is read only where the listing is not over
-more-open : (read : Next) (over wrote : Bool) → onwardOf (readOn read over) wrote ≡ More → over ≡ false
-more-open read over false e = absurd (failed-more e)
-more-open read over true e = read-open read over e
 
 -- what is left of the bytes read is within them, and what a turn leaves
 module _ (rules : Rules) (tally : Tally) (buf : List ℕ) (end : ℕ) (in-buf : end ≤ length buf) (out buf′ out′ : List ℕ) (r : Listed) (so : Turns rules tally buf end out buf′ out′ r) where

@@ -213,7 +213,7 @@ fn finish(end: Turned, out: &mut [u8])
         Next::Done => {
             let tally = end.tally;
             let stop = end.stop;
-            let n = lines::put_ending(out, 0, end.state.total as u64, tally, stop);
+            let n = search_lines::put_ending(out, 0, end.state.total as u64, tally, stop);
             write(&out[..n]);
         }
     }
@@ -267,7 +267,7 @@ fn run(edition: Edition) {
     let table = word::table::whole();
     let mut buf = io::large_buffer();
     let mut out = io::large_buffer();
-    let n = lines::put_heading(&mut out);
+    let n = search_lines::put_heading(&mut out);
     if write(&out[..n]) {
         let end = search_input(&table, edition, &mut buf, &mut out);
         finish(end, &mut out);

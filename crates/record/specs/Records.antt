@@ -1,7 +1,7 @@
 -- Records, cut out of the bytes at hand.
 -- Assumes nothing.
 use mathlib.Core.List.{List, [], _∷_}
-use Prim.Native.Nat.{ℕ, _+_, _*_}
+use Prim.Native.Nat.{ℕ, _+_, _*_, _/_, _%_}
 use lib.Dec.{ltb}
 use lib.ListN.{length, getD, take, drop}
 use Rattle.base.specs.Checks.{Check, check, first}
@@ -12,6 +12,10 @@ use Rattle.record.specs.declared.Cut.the-variants.{Record, TooLong, Shor
 -- "records of a two-byte length, high byte first, 210 header bytes, that many payload bytes"
 abbrev pub lengthBytes : ℕ
 lengthBytes = 2
+
+-- the bytes of a length, and the length that they say
+abbrev pub lengthOf : ℕ → List ℕ
+lengthOf n = n / 256 ∷ n % 256 ∷ []
 
 abbrev pub lengthIn : List ℕ → ℕ
 lengthIn l = getD l 0 0 * 256 + getD l 1 0

@@ -9,8 +9,8 @@ use lib.ListN.{length, drop, length-append}
 use Rattle.text.specs.Text.{laid, Put}
 use Rattle.text.proofs.Laid.{put-three}
 use Rattle.air.specs.Air.{airBits}
-use Rattle.record.specs.Records.{recordSize}
-use Rattle.record_writer.specs.Writing.{lengthOf, recordFrom}
+use Rattle.record.specs.Records.{recordSize, lengthOf}
+use Rattle.record_writer.specs.Writing.{recordFrom}
 
 pub record-length : (air payload : List ℕ) → length air ≡ airBits → length (recordFrom air payload) ≡ recordSize (length payload)
 unfolding recordFrom

@@ -3,7 +3,7 @@
 use mathlib.Core.Path.{_≡_}
 use mathlib.Core.Bool.{cond}
 use mathlib.Core.List.{List, [], _∷_, _++_}
-use Prim.Native.Nat.{ℕ, _/_, _%_}
+use Prim.Native.Nat.{ℕ}
 use lib.Dec.{ltb}
 use lib.ListN.{length, drop}
 use Rattle.base.specs.declared.Edition.{Edition}
@@ -13,13 +13,9 @@ use Rattle.base.specs.Checks.{Check, check, first, refusal}
 use Rattle.air.specs.Air.{payloadLimit}
 use Rattle.header.specs.declared.Fields.{Fields}
 use Rattle.header.specs.Writing.{outOfRange, longPayload, airFor}
-use Rattle.record.specs.Records.{recordSize}
+use Rattle.record.specs.Records.{lengthOf, recordSize}
 
--- "a two-byte length, high byte first"
-abbrev pub lengthOf : ℕ → List ℕ
-lengthOf n = n / 256 ∷ n % 256 ∷ []
-
--- "210 header bytes, that many payload bytes"
+-- "a two-byte length, high byte first, 210 header bytes, that many payload bytes"
 unfoldable pub recordFrom : List ℕ → List ℕ → List ℕ
 recordFrom air payload = lengthOf (length payload) ++ air ++ payload
 

@@ -54,7 +54,7 @@ fn put_mark(
     ensures { λ r. ⌜ LinePut edition mark tally (now (out .entry)) to (now (out .exit)) r ⌝ }
 {
     let read = search::read_mark_in(table, edition, mark);
-    let next = lines::put_report(out, to, edition, mark.place as u64, read);
+    let next = search_lines::put_report(out, to, edition, mark.place as u64, read);
     let answer = read.answer;
     Line {
         tally: lines::count(tally, answer),

@@ -8,7 +8,7 @@ use native.Mathlib.Omega.{arith}
 use lib.ListN.{length}
 use Rattle.streams.specs.declared.Next.{Next}
 use Rattle.streams.specs.declared.Next.the-variants.{More, Done, Failed}
-use Rattle.streams.specs.Turns.{ReadOn, readOn}
+use Rattle.streams.specs.Turns.{ReadOn, readOn, onwardOf}
 
 -- three ways to go on
 pub done-more : Done ≡ More → ⊥
@@ -30,3 +30,8 @@ read-open read false e = refl
 read-open More true e = absurd (done-more e)
 read-open Done true e = absurd (done-more e)
 read-open Failed true e = absurd (failed-more e)
+
+-- nor where what came was not written
+pub more-open : (read : Next) (over wrote : Bool) → onwardOf (readOn read over) wrote ≡ More → over ≡ false
+more-open read over false e = absurd (failed-more e)
+more-open read over true e = read-open read over e

@@ -1,0 +1,12 @@
+pub mod Digits
+pub mod Judging
+pub mod Putting
+pub mod Lines
+pub mod Fronts
+pub mod Scans
+pub mod Scanning
+pub mod Keeping
+pub mod Letters
+pub mod RoundTrip
+pub mod WholeBack
+pub mod Streaming

@@ -1,0 +1,110 @@
+-- THE WAY BACK OF A WHOLE INPUT: its lines pack to its records, and with the bytes that are left these are the input.
+-- Assumes nothing.
+use mathlib.Core.Path.{_≡_, sym, ap, _∙_}
+use mathlib.Core.Bool.{Bool}
+use mathlib.Core.List.{List, [], _∷_, _++_, append-assoc}
+use Prim.Native.Nat.{ℕ, zero, suc, _+_, _/_, _%_, _<_, _≤_}
+use native.Mathlib.Omega.{arith}
+use lib.ListN.{length, getD, take, drop, length-drop, take-append-drop, List·getD-eq-default}
+use lib.Seq.{drop-cons, drop-drop, length-take-le, getD-drop, getD-take}
+use Rattle.base.proofs.Tests.{lt-or-ge}
+use mathlib.Core.Logic.{⊎-elim}
+use Rattle.air.specs.Air.{airBits}
+use Rattle.record.specs.declared.Cut.the-variants.{Record}
+use Rattle.record.specs.Records.{lengthBytes, airIn, payloadStart, payloadIn, recordSize, cutOf, lengthOf}
+use Rattle.record.proofs.Cuts.{WholeAt, whole-at}
+use Rattle.unpacking.specs.Lines.{textLineIn}
+use Rattle.unpacking.specs.Unpacking.{unpackedOf, Scan as UnpackScan, scanOf as unpackScan}
+use Rattle.unpacking.proofs.Scans.{by-records, Stopped as UnpackStopped, scan-stops as unpack-stops, scan-takes as unpack-takes}
+use Rattle.packing.specs.declared.Judged.the-variants.{Fine}
+use Rattle.packing.specs.Packing.{Scan, stay, after, scanOf}
+use Rattle.packing.proofs.Fronts.{no-bytes}
+use Rattle.packing.proofs.Scans.{open', scan-stops}
+use Rattle.packing.proofs.Letters.{AreBytes}
+use Rattle.packing.proofs.RoundTrip.{unpack-pack}
+
+bytes-drop : (n : ℕ) (l : List ℕ) → AreBytes l → AreBytes (drop n l)
+bytes-drop n l are k = rw (getD-drop n l k 0) (are (n + k))
+
+bytes-take : (n : ℕ) (l : List ℕ) → AreBytes l → AreBytes (take n l)
+bytes-take n l are k =
+    ⊎-elim (λ (h : k < n). rw (getD-take n l k 0 h) (are k))
+    (λ (h : n ≤ k). ⊎-elim (λ (in-l : k < length (take n l)). absurd (omega (arith, short n l))) (λ (out : length (take n l) ≤ k). rw (List·getD-eq-default (take n l) 0 {n = k} out) (omega arith)) (lt-or-ge k (length (take n l))))
+    (lt-or-ge k n)
+  where
+    short : (n : ℕ) (l : List ℕ) → length (take n l) ≤ n
+    short zero l = omega arith
+    short (suc n) [] = omega arith
+    short (suc n) (x ∷ l) = omega (arith, short n l)
+
+-- two parts and the rest are the whole
+parts-whole : (a n : ℕ) (m : List ℕ) → take a m ++ (take n (drop a m) ++ drop (a + n) m) ≡ m
+parts-whole a n m = rw (← drop-drop n a m, take-append-drop n (drop a m)) (take-append-drop a m)
+
+module _ (l : List ℕ) (n : ℕ) (e : cutOf l ≡ Record n) (are : AreBytes l) where
+  so : WholeAt l n
+  so = whole-at l n e
+
+  -- a record's bytes, and those after it
+  record-whole : lengthOf n ++ airIn l ++ payloadIn n l ++ drop (recordSize n) l ≡ l
+  record-whole =
+      let high : n / 256 ≡ getD l 0 0 = omega (arith, so .is, are 1) in
+      let low : n % 256 ≡ getD l 1 0 = omega (arith, so .is, are 1) in
+      let two : l ≡ getD l 0 0 ∷ getD l 1 0 ∷ drop 2 l = drop-cons l 0 0 (omega (arith, so .there)) ∙ ap (λ (t : List ℕ). getD l 0 0 ∷ t) (drop-cons l 1 0 (omega (arith, so .there))) in
+      let past : drop airBits (drop 2 l) ≡ drop payloadStart l = drop-drop airBits 2 l in
+      let size : 2 + (airBits + n) ≡ recordSize n = omega arith in
+      let end : drop (airBits + n) (drop 2 l) ≡ drop (recordSize n) l = drop-drop (airBits + n) 2 l ∙ ap (λ (k : ℕ). drop k l) size in
+      let rest : airIn l ++ (payloadIn n l ++ drop (recordSize n) l) ≡ drop 2 l = rw (← past, ← end) (parts-whole airBits n (drop 2 l)) in
+      append-assoc (lengthOf n ++ airIn l) (payloadIn n l) (drop (recordSize n) l)
+      ∙ append-assoc (lengthOf n) (airIn l) (payloadIn n l ++ drop (recordSize n) l)
+      ∙ rw (rest, high, low) (sym two)
+
+  payload-long : length (payloadIn n l) ≡ n
+  payload-long = length-take-le n (drop payloadStart l) (omega (arith, so .there, length-drop payloadStart l))
+
+  -- its line, whatever follows it
+  record-back : (rest : List ℕ) → scanOf (textLineIn n l ++ rest) ≡ after (lengthOf n ++ airIn l ++ payloadIn n l) (scanOf rest)
+  record-back rest =
+      rw payload-long at
+      (unpack-pack (airIn l) (payloadIn n l) (length-take-le airBits (drop lengthBytes l) (omega (arith, so .there, length-drop lengthBytes l)))
+      (omega (arith, payload-long, so .within))
+      (bytes-take airBits (drop lengthBytes l) (bytes-drop lengthBytes l are))
+      (bytes-take n (drop payloadStart l) (bytes-drop payloadStart l are)) rest)
+
+nothing-packed : scanOf [] ≡ stay [] Fine
+nothing-packed = scan-stops [] Fine (open' (no-bytes [] (omega arith)))
+
+-- what an unpacked input packs to, with what is left of it
+abbrev bytesBack : UnpackScan → List ℕ
+bytesBack s = scanOf (s .text) .bytes ++ s .rest
+
+-- no record, and one more
+none-back : (l : List ℕ) (over : Bool) → UnpackStopped l over → bytesBack (unpackScan l) ≡ l
+none-back l over stopped = ap bytesBack (unpack-stops l over stopped) ∙ ap (λ (p : Scan). p .bytes ++ l) nothing-packed
+
+one-back : (l : List ℕ) (n : ℕ) → cutOf l ≡ Record n → AreBytes l → bytesBack (unpackScan (drop (recordSize n) l)) ≡ drop (recordSize n) l → bytesBack (unpackScan l) ≡ l
+one-back l n e are more =
+    let next : UnpackScan = unpackScan (drop (recordSize n) l) in
+    let bytes : List ℕ = lengthOf n ++ airIn l ++ payloadIn n l in
+    ap bytesBack (unpack-takes l n e)
+    ∙ ap (λ (p : Scan). p .bytes ++ next .rest) (record-back l n e are (next .text))
+    ∙ append-assoc bytes (scanOf (next .text) .bytes) (next .rest)
+    ∙ ap (λ (t : List ℕ). bytes ++ t) more
+    ∙ record-whole l n e are
+
+-- the lines of an input pack to its records: they and what is left are the input
+pub whole-back : (input : List ℕ) → AreBytes input → scanOf (unpackedOf input) .bytes ++ unpackScan input .rest ≡ input
+whole-back =
+    by-records (λ l. AreBytes l → bytesBack (unpackScan l) ≡ l)
+    (λ l over stopped are. none-back l over stopped)
+    (λ l n e more are. one-back l n e are (more (bytes-drop (recordSize n) l are)))
+
+-- and none of these lines is wrong
+pub all-well : (input : List ℕ) → AreBytes input → scanOf (unpackedOf input) .judged ≡ Fine
+all-well =
+    by-records (λ l. AreBytes l → scanOf (unpackScan l .text) .judged ≡ Fine)
+    (λ l over stopped are. ap (λ (s : UnpackScan). scanOf (s .text) .judged) (unpack-stops l over stopped) ∙ ap (λ (p : Scan). p .judged) nothing-packed)
+    (λ l n e more are.
+    ap (λ (s : UnpackScan). scanOf (s .text) .judged) (unpack-takes l n e)
+    ∙ ap (λ (p : Scan). p .judged) (record-back l n e are (unpackScan (drop (recordSize n) l) .text))
+    ∙ more (bytes-drop (recordSize n) l are))

@@ -1,0 +1,37 @@
+-- For contracts inside: what the functions promise of lent bytes.
+-- Assumes nothing.
+use mathlib.Core.Path.{_≡_}
+use mathlib.Core.List.{List}
+use Prim.Native.Nat.{ℕ, _+_, _-_, _*_, _≤_}
+use lib.ListN.{length, take}
+use Rattle.text.specs.Text.{Put}
+use Rattle.record.specs.Moves.{Moved}
+use Rattle.packing.specs.declared.Packed.{Packed}
+use Rattle.packing.specs.declared.PackedLines.{PackedLines}
+use Rattle.packing.specs.Lines.{packedParts, packOf}
+use Rattle.packing.specs.Packing.{scanOf}
+
+-- the two parts of a line were packed: whether they are well, and the record
+pub record PacksParts (header digits before : List ℕ) (at : ℕ) (after : List ℕ) (r : Packed) : Type 0 where
+  pub judged-is : r .judged ≡ packedParts header digits .judged
+  pub put : Put before at (packedParts header digits .bytes) after (r .to)
+  pub short : r .to ≤ at + 2 * (length header + length digits)
+
+-- a line was packed
+pub record Packs (line before : List ℕ) (at : ℕ) (after : List ℕ) (r : Packed) : Type 0 where
+  pub judged-is : r .judged ≡ packOf line .judged
+  pub put : Put before at (packOf line .bytes) after (r .to)
+  pub short : r .to ≤ at + 2 * length line
+
+-- the lines of some bytes were packed: how many, the records, how many bytes are left, and what is wrong with the next line
+pub record Scanned (l before : List ℕ) (at : ℕ) (after : List ℕ) (r : PackedLines) : Type 0 where
+  pub lines-are : r .lines ≡ scanOf l .lines
+  pub put : Put before at (scanOf l .bytes) after (r .to)
+  pub short : r .to ≤ at + 2 * length l
+  pub left-is : r .left ≡ length (scanOf l .rest)
+  pub judged-is : r .judged ≡ scanOf l .judged
+
+-- the first `end` bytes of a buffer were packed, and what is left of them was moved to its front
+pub record Turns (buf : List ℕ) (end : ℕ) (out buf′ out′ : List ℕ) (r : PackedLines) : Type 0 where
+  pub packed : Scanned (take end buf) out 0 out′ r
+  pub kept : Moved buf (end - r .left) (r .left) buf′
