@@ -62,10 +62,6 @@ module _ (base : ℕ) (l : List ℕ) (i : ℕ) (so : Ahead base l i) where
   unfolding digitsAhead
   ahead-ends h = ends (length l) (isNone base l) i so h
 
-pub ahead-inside : (base : ℕ) (l : List ℕ) → digitsAhead base l ≤ length l
-unfolding digitsAhead
-ahead-inside base l = lowest-is (isNone base l) (length l) .inside
-
 -- where none is found, all are digits
 pub all-digits : (base : ℕ) (l : List ℕ) → length l ≤ digitsAhead base l → AreDigits base l
 unfolding digitsAhead
