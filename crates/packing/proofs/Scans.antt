@@ -8,7 +8,7 @@ use native.Mathlib.Nat.{le-refl}
 use native.Mathlib.Omega.{arith}
 use lib.ListN.{length, take, drop, length-drop}
 use lib.Seq.{drop-drop}
-use Rattle.unpacking.proofs.Scans.{Suffix}
+use Rattle.record.proofs.Walking.{Suffix}
 use Rattle.packing.specs.declared.Judged.{Judged}
 use Rattle.packing.specs.declared.Judged.the-variants.{Fine, Wrong}
 use Rattle.packing.specs.declared.Fault.the-variants.{LongLine}

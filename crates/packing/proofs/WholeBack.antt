@@ -1,6 +1,6 @@
 -- THE WAY BACK OF A WHOLE INPUT: its lines pack to its records, and with the bytes that are left these are the input.
 -- Assumes nothing.
-use mathlib.Core.Path.{_≡_, sym, ap, _∙_}
+use mathlib.Core.Path.{_≡_, sym, ap, _∙_, refl}
 use mathlib.Core.Bool.{Bool}
 use mathlib.Core.List.{List, [], _∷_, _++_, append-assoc}
 use Prim.Native.Nat.{ℕ, zero, suc, _+_, _/_, _%_, _<_, _≤_}
@@ -12,10 +12,11 @@ use mathlib.Core.Logic.{⊎-elim}
 use Rattle.air.specs.Air.{airBits}
 use Rattle.record.specs.declared.Cut.the-variants.{Record}
 use Rattle.record.specs.Records.{lengthBytes, airIn, payloadStart, payloadIn, recordSize, cutOf, lengthOf}
+use Rattle.record.specs.Walks.{Walked}
 use Rattle.record.proofs.Cuts.{WholeAt, whole-at}
+use Rattle.record.proofs.Walking.{Stopped, walk-stops, walk-takes, by-records}
 use Rattle.unpacking.specs.Lines.{textLineIn}
-use Rattle.unpacking.specs.Unpacking.{unpackedOf, Scan as UnpackScan, scanOf as unpackScan}
-use Rattle.unpacking.proofs.Scans.{by-records, Stopped as UnpackStopped, scan-stops as unpack-stops, scan-takes as unpack-takes}
+use Rattle.unpacking.specs.Unpacking.{lineWalk, unpackedOf, scanOf as unpackScan}
 use Rattle.packing.specs.declared.Judged.the-variants.{Fine}
 use Rattle.packing.specs.Packing.{Scan, stay, after, scanOf}
 use Rattle.packing.proofs.Fronts.{no-bytes}
@@ -75,18 +76,18 @@ nothing-packed : scanOf [] ≡ stay [] Fine
 nothing-packed = scan-stops [] Fine (open' (no-bytes [] (omega arith)))
 
 -- what an unpacked input packs to, with what is left of it
-abbrev bytesBack : UnpackScan → List ℕ
+abbrev bytesBack : Walked (Unit {0}) → List ℕ
 bytesBack s = scanOf (s .text) .bytes ++ s .rest
 
 -- no record, and one more
-none-back : (l : List ℕ) (over : Bool) → UnpackStopped l over → bytesBack (unpackScan l) ≡ l
-none-back l over stopped = ap bytesBack (unpack-stops l over stopped) ∙ ap (λ (p : Scan). p .bytes ++ l) nothing-packed
+none-back : (l : List ℕ) (over : Bool) → Stopped lineWalk tt l over → bytesBack (unpackScan l) ≡ l
+none-back l over stopped = ap bytesBack (walk-stops lineWalk tt l over stopped) ∙ ap (λ (p : Scan). p .bytes ++ l) nothing-packed
 
 one-back : (l : List ℕ) (n : ℕ) → cutOf l ≡ Record n → AreBytes l → bytesBack (unpackScan (drop (recordSize n) l)) ≡ drop (recordSize n) l → bytesBack (unpackScan l) ≡ l
 one-back l n e are more =
-    let next : UnpackScan = unpackScan (drop (recordSize n) l) in
+    let next : Walked (Unit {0}) = unpackScan (drop (recordSize n) l) in
     let bytes : List ℕ = lengthOf n ++ airIn l ++ payloadIn n l in
-    ap bytesBack (unpack-takes l n e)
+    ap bytesBack (walk-takes lineWalk tt l n e refl)
     ∙ ap (λ (p : Scan). p .bytes ++ next .rest) (record-back l n e are (next .text))
     ∙ append-assoc bytes (scanOf (next .text) .bytes) (next .rest)
     ∙ ap (λ (t : List ℕ). bytes ++ t) more
@@ -94,17 +95,17 @@ one-back l n e are more =
 
 -- the lines of an input pack to its records: they and what is left are the input
 pub whole-back : (input : List ℕ) → AreBytes input → scanOf (unpackedOf input) .bytes ++ unpackScan input .rest ≡ input
-whole-back =
-    by-records (λ l. AreBytes l → bytesBack (unpackScan l) ≡ l)
-    (λ l over stopped are. none-back l over stopped)
-    (λ l n e more are. one-back l n e are (more (bytes-drop (recordSize n) l are)))
+whole-back input =
+    by-records lineWalk (λ s l. AreBytes l → bytesBack (unpackScan l) ≡ l)
+    (λ s l over stopped are. none-back l over stopped)
+    (λ s l n e g more are. one-back l n e are (more (bytes-drop (recordSize n) l are))) tt input
 
 -- and none of these lines is wrong
 pub all-well : (input : List ℕ) → AreBytes input → scanOf (unpackedOf input) .judged ≡ Fine
-all-well =
-    by-records (λ l. AreBytes l → scanOf (unpackScan l .text) .judged ≡ Fine)
-    (λ l over stopped are. ap (λ (s : UnpackScan). scanOf (s .text) .judged) (unpack-stops l over stopped) ∙ ap (λ (p : Scan). p .judged) nothing-packed)
-    (λ l n e more are.
-    ap (λ (s : UnpackScan). scanOf (s .text) .judged) (unpack-takes l n e)
+all-well input =
+    by-records lineWalk (λ s l. AreBytes l → scanOf (unpackScan l .text) .judged ≡ Fine)
+    (λ s l over stopped are. ap (λ (w : Walked (Unit {0})). scanOf (w .text) .judged) (walk-stops lineWalk tt l over stopped) ∙ ap (λ (p : Scan). p .judged) nothing-packed)
+    (λ s l n e g more are.
+    ap (λ (w : Walked (Unit {0})). scanOf (w .text) .judged) (walk-takes lineWalk tt l n e refl)
     ∙ ap (λ (p : Scan). p .judged) (record-back l n e are (unpackScan (drop (recordSize n) l) .text))
-    ∙ more (bytes-drop (recordSize n) l are))
+    ∙ more (bytes-drop (recordSize n) l are)) tt input

@@ -11,10 +11,10 @@ use Rattle.air.specs.Air.{payloadLimit}
 use Rattle.text.proofs.Sizes.{part-size}
 use Rattle.record.specs.Records.{recordSize}
 use Rattle.record.specs.Moves.{Moved}
+use Rattle.record.proofs.Walking.{walk-stopped, stopped-short, Suffix, walk-rest}
 use Rattle.unpacking.specs.declared.Unpacked.{Unpacked}
-use Rattle.unpacking.specs.Unpacking.{scanOf}
+use Rattle.unpacking.specs.Unpacking.{lineWalk, scanOf}
 use Rattle.unpacking.specs.Promises.{Scanned, Turns}
-use Rattle.unpacking.proofs.Scans.{scan-stopped, stopped-short, Suffix, scan-rest}
 
 -- the first n bytes have room where twice n bytes have
 pub part-fits : (l : List ℕ) (n room : ℕ) → n ≤ length l → 2 * n ≤ room → 0 + 2 * length (take n l) ≤ room
@@ -55,16 +55,16 @@ module _ (buf : List ℕ) (end : ℕ) (inside : end ≤ length buf) (rest : List
 -- so it is with what is left of the records of a piece
 module _ (buf : List ℕ) (end : ℕ) (inside : end ≤ length buf) (out out′ : List ℕ) (r : Unpacked) (so : Scanned (take end buf) out 0 out′ r) where
   pub left-inside : r .left ≤ end
-  left-inside = rest-inside buf end inside (scanOf (take end buf) .rest) (scan-rest (take end buf)) (r .left) (so .left-is)
+  left-inside = rest-inside buf end inside (scanOf (take end buf) .rest) (walk-rest lineWalk tt (take end buf)) (r .left) (so .left-is)
 
   pub left-room : end - r .left + r .left ≤ length buf
-  left-room = rest-room buf end inside (scanOf (take end buf) .rest) (scan-rest (take end buf)) (r .left) (so .left-is)
+  left-room = rest-room buf end inside (scanOf (take end buf) .rest) (walk-rest lineWalk tt (take end buf)) (r .left) (so .left-is)
 
 pub kept-unpacked : (buf : List ℕ) (end : ℕ) → end ≤ length buf → (out buf′ out′ : List ℕ) (r : Unpacked) → Turns buf end out buf′ out′ r
     → take (r .left) buf′ ≡ scanOf (take end buf) .rest
 kept-unpacked buf end inside out buf′ out′ r turned =
-    rest-front buf end inside (scanOf (take end buf) .rest) (scan-rest (take end buf)) (r .left) (turned .unpacked .left-is) buf′ (turned .kept)
+    rest-front buf end inside (scanOf (take end buf) .rest) (walk-rest lineWalk tt (take end buf)) (r .left) (turned .unpacked .left-is) buf′ (turned .kept)
 
 -- where more bytes may make a record, what is left is shorter than the longest one
 pub left-short : (l before : List ℕ) (at : ℕ) (after : List ℕ) (r : Unpacked) → Scanned l before at after r → r .over ≡ false → r .left < recordSize payloadLimit
-left-short l before at after r so e = rw (so .left-is) (stopped-short (scanOf l .rest) (rw (← so .over-is, e) at (scan-stopped l)))
+left-short l before at after r so e = rw (so .left-is) (stopped-short lineWalk tt (scanOf l .rest) (rw (← so .over-is, e) at (walk-stopped lineWalk tt l)))

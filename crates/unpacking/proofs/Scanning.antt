@@ -14,11 +14,12 @@ use Rattle.text.proofs.Laid.{put-none, put-then}
 use Rattle.record.specs.declared.Cut.{Cut}
 use Rattle.record.specs.declared.Cut.the-variants.{Record, TooLong, Short}
 use Rattle.record.specs.Records.{recordSize, cutOf}
+use Rattle.record.specs.Walks.{halt, behind}
 use Rattle.record.proofs.Cuts.{WholeAt, whole-at}
+use Rattle.record.proofs.Walking.{Stopped, long, short, walk-stops, walk-takes}
 use Rattle.unpacking.specs.Lines.{textLineIn}
-use Rattle.unpacking.specs.Unpacking.{stay, after, scanOf}
+use Rattle.unpacking.specs.Unpacking.{lineWalk, scanOf}
 use Rattle.unpacking.specs.Promises.{Scanned}
-use Rattle.unpacking.proofs.Scans.{Stopped, long, short, scan-stops, scan-takes}
 
 -- the bytes from `used` on, as the code lends them
 abbrev pub part : List ℕ → ℕ → List ℕ
@@ -31,24 +32,24 @@ part-is l used = rw (← length-drop used l) (take-length (drop used l))
 pub record Scanning (l before : List ℕ) (at : ℕ) (out : List ℕ) (used to : ℕ) : Type 0 where
   pub room : at + 2 * length l ≤ length before
   pub inside : used ≤ length l
-  pub behind : to ≤ at + 2 * used
+  pub behind-all : to ≤ at + 2 * used
   pub text : List ℕ
   pub lines : Put before at text out to
-  pub left : scanOf l ≡ after text (scanOf (drop used l))
+  pub left : scanOf l ≡ behind text (scanOf (drop used l))
 
 pub starts : (l before : List ℕ) (at : ℕ) → at + 2 * length l ≤ length before → Scanning l before at before 0 at
-starts l before at room = record { room = room; inside = omega arith; behind = omega arith; text = []; lines = put-none (omega arith); left = refl }
+starts l before at room = record { room = room; inside = omega arith; behind-all = omega arith; text = []; lines = put-none (omega arith); left = refl }
 
 module _ (l before : List ℕ) (at : ℕ) (out : List ℕ) (used to : ℕ) (so : Scanning l before at out used to) (c : Cut) (is : c ≡ cutOf (part l used)) where
   front : (e : Cut) → c ≡ e → cutOf (drop used l) ≡ e
   front e same = ap cutOf (sym (part-is l used)) ∙ sym is ∙ same
 
-  stops : (over : Bool) → Stopped (drop used l) over → Scanned l before at out (record { left = length (part l used); to = to; over = over })
+  stops : (over : Bool) → Stopped lineWalk tt (drop used l) over → Scanned l before at out (record { left = length (part l used); to = to; over = over })
   stops over stopped =
-      let all : scanOf l ≡ after (so .text) (stay (drop used l) over) = so .left ∙ ap (after (so .text)) (scan-stops (drop used l) over stopped) in
+      let all : scanOf l ≡ behind (so .text) (halt tt (drop used l) over) = so .left ∙ ap (behind (so .text)) (walk-stops lineWalk tt (drop used l) over stopped) in
       record {
         lines = rw (all, append-nil) (so .lines);
-        short = omega (arith, so .behind, so .inside);
+        short = omega (arith, so .behind-all, so .inside);
         left-is = rw all (ap length (part-is l used));
         over-is = rw all;
       }
@@ -71,7 +72,7 @@ module _ (l before : List ℕ) (at : ℕ) (out : List ℕ) (used to : ℕ) (so :
     fits-in = omega (arith, whole .there, length-drop used l, so .inside)
 
     pub has-room : to + 2 * recordSize n ≤ length out
-    has-room = omega (arith, fits-in, so .room, so .behind, so .lines .kept)
+    has-room = omega (arith, fits-in, so .room, so .behind-all, so .lines .kept)
 
     -- the next place
     pub size-fits : length l < 2 ^ 64 → Fits w64 (recordSize n)
@@ -91,8 +92,8 @@ module _ (l before : List ℕ) (at : ℕ) (out : List ℕ) (used to : ℕ) (so :
         record {
           room = so .room;
           inside = fits-in;
-          behind = omega (arith, so .behind);
+          behind-all = omega (arith, so .behind-all);
           text = so .text ++ textLineIn n m;
           lines = put-then (so .lines) line;
-          left = so .left ∙ rw (scan-takes m n (front (Record n) e), drop-drop (recordSize n) used l, append-assoc);
+          left = so .left ∙ rw (walk-takes lineWalk tt m n (front (Record n) e) refl, drop-drop (recordSize n) used l, append-assoc);
         }
