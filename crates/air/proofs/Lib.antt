@@ -1,9 +1,10 @@
 pub mod Bits
 pub mod Places
-pub mod Collecting
+pub mod Gathering
 pub mod Repairing
 pub mod Answers
 pub mod Restored
 pub mod Flipped
 pub mod Bursts
 pub mod MostFlips
+pub mod CountingFlips

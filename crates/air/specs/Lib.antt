@@ -2,3 +2,4 @@ pub mod Air
 pub mod WordRepairs
 pub mod Closeness
 pub mod Flips
+pub mod Lanes

@@ -4,20 +4,26 @@ use word::WORD_LIMIT;
 use word::table::TABLE_ROWS;
 ghost use mathlib.Core.Path.{_≡_};
 ghost use mathlib.Core.List.{_++_, foldl};
-ghost use Prim.Native.Nat.{_/_, _%_, _^_, _<_, _≤_};
+ghost use Prim.Native.Nat.{ℕ, _+_, _*_, _/_, _%_, _^_, _<_, _≤_};
 ghost use lib.Bits.{bitOr};
-ghost use lib.ListN.{length, drop};
+ghost use lib.ListN.{length, getD, drop};
 ghost use Rattle.base.specs.Lists.{AreBits};
 ghost use Rattle.word.specs.Repairs.{syndromes};
 ghost use Rattle.word.specs.Words.{positions, flipCount};
-ghost use Rattle.air.specs.Air.{wordCount, airBits, wordAt, wordsOf, airOf, firstNoBit};
+ghost use Rattle.air.specs.Air.{wordCount, airBits, wordsOf, airOf, firstNoBit};
+ghost use Rattle.air.specs.Lanes.{topPosition, lanesTo, padded, countsOf, laneSum};
 ghost use Rattle.air.specs.WordRepairs.{repairWordsOf, worstOf};
 
 // The words of a header.
 pub const WORD_COUNT: usize = 14;
 
-// The positions of a word.
-const POSITIONS: usize = 15;
+// The lanes in which they are gathered and counted: two past the words, since a loop over sixteen becomes instructions on all of them.
+const LANES: usize = 16;
+
+// The top position of a word, and the weight of its bit.
+const TOP_POSITION: usize = 14;
+
+const TOP_WEIGHT: u16 = 0x4000;
 
 // The bits of a header on air.
 pub const AIR_BITS: usize = 210;
@@ -75,34 +81,63 @@ pub fn first_no_bit(bytes: &[u8]) -> usize
     look(bytes)
 }
 
-// Word j of a header's air bits.
-fn gather(air: &[u8], j: usize) -> u16
+// A bit more, of some weight, above those that a word has.
+fn with_bit(word: u16, bit: u8, weight: u16) -> u16
+    requires { ⌜ word < weight ⌝ }
+    requires { ⌜ bit < 2 ⌝ }
+    requires { ⌜ weight ≤ 2 ^ topPosition ⌝ }
+    ensures { λ r. ⌜ r ≡ word + bit * weight ⌝ }
+{
+    word + bit as u16 * weight
+}
+
+// Position i of each lane, taken in above those below it. The lanes past the words read on into the next position: nobody asks for them.
+fn with_row(lanes: [u16; LANES], air: &[u8], i: usize, weight: u16) -> [u16; LANES]
     requires { ⌜ length (now air) ≡ airBits ⌝ }
     requires { ⌜ AreBits (now air) ⌝ }
-    requires { ⌜ j < wordCount ⌝ }
-    ensures { λ w. ⌜ w ≡ wordAt (now (air .entry)) j ⌝ }
+    requires { ⌜ i < topPosition ⌝ }
+    requires { ⌜ weight ≡ 2 ^ i ⌝ }
+    requires { ⌜ lanes ≡ lanesTo (now air) i ⌝ }
+    ensures { λ r. ⌜ r ≡ lanesTo (now (air .entry)) (i + 1) ⌝ }
 {
-    let mut word: u16 = 0;
+    let mut next = [0u16; LANES];
+    let mut j = 0;
+    while j < LANES {
+        next[j] = with_bit(lanes[j], air[WORD_COUNT * i + j], weight);
+        j += 1;
+    }
+    next
+}
+
+// The words without their top position, in lanes.
+fn below_top(air: &[u8]) -> [u16; LANES]
+    requires { ⌜ length (now air) ≡ airBits ⌝ }
+    requires { ⌜ AreBits (now air) ⌝ }
+    ensures { λ r. ⌜ r ≡ lanesTo (now (air .entry)) topPosition ⌝ }
+{
+    let mut lanes = [0u16; LANES];
     let mut weight: u16 = 1;
     let mut i = 0;
-    while i < POSITIONS {
-        word += air[WORD_COUNT * i + j] as u16 * weight;
+    while i < TOP_POSITION {
+        let next = with_row(lanes, air, i, weight);
+        lanes = next;
         weight *= 2;
         i += 1;
     }
-    word
+    lanes
 }
 
-// The fourteen words of a header's air bits.
+// The fourteen words of a header's air bits. No position follows the top one, so it has no lanes past the words.
 pub fn words(air: &[u8]) -> [u16; WORD_COUNT]
     requires { ⌜ length (now air) ≡ airBits ⌝ }
     requires { ⌜ AreBits (now air) ⌝ }
     ensures { λ r. ⌜ r ≡ wordsOf (now (air .entry)) ⌝ }
 {
+    let lanes = below_top(air);
     let mut all = [0u16; WORD_COUNT];
     let mut j = 0;
     while j < WORD_COUNT {
-        all[j] = gather(air, j);
+        all[j] = with_bit(lanes[j], air[WORD_COUNT * TOP_POSITION + j], TOP_WEIGHT);
         j += 1;
     }
     all
@@ -128,6 +163,60 @@ pub fn send(words: [u16; WORD_COUNT], out: &mut [u8])
     }
 }
 
+// The flips of a pattern: its ones at the positions of a word.
+fn count(pattern: u16) -> u16
+    ensures { λ r. ⌜ r ≡ flipCount pattern ⌝ }
+{
+    u16::count_ones(pattern % WORD_LIMIT) as u16
+}
+
+// Fourteen patterns in lanes: those past them hold 0.
+fn in_lanes(patterns: [u16; WORD_COUNT]) -> [u16; LANES]
+    ensures { λ r. ⌜ r ≡ padded patterns ⌝ }
+{
+    let mut lanes = [0u16; LANES];
+    let mut j = 0;
+    while j < WORD_COUNT {
+        lanes[j] = patterns[j];
+        j += 1;
+    }
+    lanes
+}
+
+// The flips of each lane.
+fn count_each(lanes: [u16; LANES]) -> [u16; LANES]
+    ensures { λ r. ⌜ r ≡ countsOf lanes ⌝ }
+{
+    let mut counts = [0u16; LANES];
+    let mut j = 0;
+    while j < LANES {
+        counts[j] = count(lanes[j]);
+        j += 1;
+    }
+    counts
+}
+
+// The flips of each pattern, in lanes: one pattern at a time takes three times as long.
+fn counted(patterns: [u16; WORD_COUNT]) -> [u16; LANES]
+    ensures { λ r. ⌜ r ≡ countsOf patterns ⌝ }
+{
+    count_each(in_lanes(patterns))
+}
+
+// The sum of counts.
+fn sum(counts: [u16; LANES]) -> u16
+    requires { ⌜ ((k : ℕ) → getD counts k 0 ≤ positions) ⌝ }
+    ensures { λ r. ⌜ r ≡ laneSum counts ⌝ }
+{
+    let mut sum: u16 = 0;
+    let mut j = 0;
+    while j < LANES {
+        sum += counts[j];
+        j += 1;
+    }
+    sum
+}
+
 // The repair of fourteen words, by a lent copy of the syndrome table.
 pub fn repair_words(table: &[u16; TABLE_ROWS], words: [u16; WORD_COUNT]) -> RepairedWords
     requires { ⌜ now table ≡ syndromes ⌝ }
@@ -135,14 +224,12 @@ pub fn repair_words(table: &[u16; TABLE_ROWS], words: [u16; WORD_COUNT]) -> Repa
 {
     let mut repaired = [0u16; WORD_COUNT];
     let mut patterns = [0u16; WORD_COUNT];
-    let mut total: u32 = 0;
     let mut j = 0;
     while j < WORD_COUNT {
         match word::repair_in(table, words[j]) {
             Repaired::Word { word, flips } => {
                 repaired[j] = word;
                 patterns[j] = flips;
-                total += u16::count_ones(flips);
             }
             Repaired::Beyond => {
                 return RepairedWords {
@@ -155,30 +242,25 @@ pub fn repair_words(table: &[u16; TABLE_ROWS], words: [u16; WORD_COUNT]) -> Repa
         }
         j += 1;
     }
+    let flips = sum(counted(patterns));
     RepairedWords {
         words: repaired,
         patterns,
-        flips: total,
+        flips: flips as u32,
         beyond: WORD_COUNT,
     }
 }
 
-// The flips of a pattern: its ones at the positions of a word.
-fn count(pattern: u16) -> u32
-    ensures { λ r. ⌜ r ≡ flipCount pattern ⌝ }
-{
-    u16::count_ones(pattern % WORD_LIMIT)
-}
-
-// The lowest word with the most flips.
-pub fn worst(patterns: [u16; WORD_COUNT]) -> usize
-    ensures { λ r. ⌜ r ≡ worstOf patterns ⌝ }
+// The lowest word with the most flips, by the counts of its patterns. The patterns themselves are lent for the contract alone.
+fn worst_by(patterns: &[u16; WORD_COUNT], counts: [u16; LANES]) -> usize
+    requires { ⌜ counts ≡ countsOf (now patterns) ⌝ }
+    ensures { λ r. ⌜ r ≡ worstOf (now (patterns .entry)) ⌝ }
 {
     let mut worst = 0;
-    let mut most: u32 = 0;
+    let mut most: u16 = 0;
     let mut j = 0;
     while j < WORD_COUNT {
-        let flips = count(patterns[j]);
+        let flips = counts[j];
         let here = j;
         j += 1;
         if flips <= most {
@@ -188,4 +270,12 @@ pub fn worst(patterns: [u16; WORD_COUNT]) -> usize
         most = flips;
     }
     worst
+}
+
+// The lowest word with the most flips.
+pub fn worst(patterns: [u16; WORD_COUNT]) -> usize
+    ensures { λ r. ⌜ r ≡ worstOf patterns ⌝ }
+{
+    let counts = counted(patterns);
+    worst_by(&patterns, counts)
 }

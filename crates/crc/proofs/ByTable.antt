@@ -1,7 +1,7 @@
 -- A byte into a checksum by a table of 256 steps, for every polynomial and every width of at least eight: the top eight bits
--- and the byte choose the step, and the bits below move up.
+-- and the byte choose the step, and the bits below move up. And for CRC5, which the byte is wider than.
 -- Assumes nothing.
-use mathlib.Core.Path.{_≡_, sym, ap, ap₂, _∙_}
+use mathlib.Core.Path.{_≡_, refl, sym, ap, ap₂, _∙_}
 use mathlib.Core.Bool.{Bool, cond}
 use mathlib.Core.List.{List}
 use Prim.Native.Nat.{ℕ, zero, suc, _+_, _-_, _*_, _/_, _%_, _^_, _≤_, _<_}
@@ -9,14 +9,16 @@ use native.Mathlib.Nat.{mul-one, mul-assoc, add-zero, mod-eq-of-lt, mul-mod-left
 use native.Mathlib.Omega.{arith}
 use borrow.Author.Tests.{eq-eqb}
 use lib.Bits.{bitXor, xor-zero-r, xor-comm, xor-lt}
-use lib.ListN.{getD}
+use lib.Dec.{lit<}
+use lib.ListN.{getD, replicate}
 use lib.Pow.{pow-pos, shl-shr, shr-lt, shr-shr, field, mod-pow-add, mod-mod-pow}
 use mir.Syntax.{w8}
 use mir.Val.{Fits}
 use Rattle.base.specs.Lists.{tabulate}
-use Rattle.base.proofs.Tabulate.{tabulate-at, tabulate-same, tabulate-more}
+use Rattle.base.proofs.Tabulate.{tabulate-at, tabulate-same, tabulate-more, read-replicated}
 use Rattle.base.proofs.Xor.{xor-back}
 use Rattle.crc.specs.Crc.{byteBits, bitsOf, crcStep, crcOf}
+use Rattle.crc.specs.Crc5.{poly5}
 use Rattle.crc.specs.Steps.{stepOf, stepsOf}
 use Rattle.crc.proofs.Linear.{number-linear}
 use Rattle.crc.proofs.Loop.{crcByte, crc-append}
@@ -63,27 +65,37 @@ module _ (w p crc : ℕ) (small : crc < 2 ^ w) where
       tabulate-same _ _ n
       (λ t l. let e : (w - n) + (n - 1 - t) ≡ w - 1 - t = omega arith in rw (shr-shr, e))
 
-module _ (w p : ℕ) (wide : byteBits ≤ w) (fits : p < 2 ^ w) where
-  -- a byte is the sum of two: the top eight bits, which cancel, and what is left, which makes its step from 0
-  by-step : (crc byte : ℕ) → crc < 2 ^ w
-      → crcByte w p crc byte ≡ bitXor (stepOf w p (bitXor (crc / 2 ^ (w - byteBits)) byte)) (crc % 2 ^ (w - byteBits) * 2 ^ byteBits)
-  unfolding stepOf
-  by-step crc byte small =
-      let top = crc / 2 ^ (w - byteBits) in
-      let other = bitXor top byte in
-      ap₂ (crcByte w p) (sym (xor-zero-r crc)) (sym (xor-back top byte))
-      ∙ number-linear w p fits byteBits top other crc 0 small (pow-pos w)
-      ∙ ap (λ (x : ℕ). bitXor x (crcByte w p 0 other))
-      (ap (crcOf w p crc) (own-bits w p crc small byteBits wide) ∙ own-in w p crc small byteBits wide)
-      ∙ xor-comm (crc % 2 ^ (w - byteBits) * 2 ^ byteBits) (crcByte w p 0 other)
+-- a byte is the sum of two: one after which something known is left of the checksum, and one that makes its step from 0
+module _ (w p : ℕ) (fits : p < 2 ^ w) (steps : List ℕ) (is : steps ≡ stepsOf w p) where
+  by-steps : (crc own left byte step : ℕ) → crc < 2 ^ w → own < 256 → Fits w8 byte → crcByte w p crc own ≡ left → step ≡ getD steps (bitXor own byte) 0
+      → bitXor step left ≡ crcByte w p crc byte
+  unfolding stepOf stepsOf
+  by-steps crc own left byte step small inside fit gone row =
+      let other = bitXor own byte in
+      let here : step ≡ crcByte w p 0 other = row ∙ rw is (tabulate-at (stepOf w p) 0 256 other (xor-lt byteBits own byte inside (omega arith))) in
+      rw (here, ← gone)
+      (xor-comm (crcByte w p 0 other) (crcByte w p crc own)
+      ∙ sym (number-linear w p fits byteBits own other crc 0 small (pow-pos w))
+      ∙ ap₂ (crcByte w p) (xor-zero-r crc) (xor-back own byte))
 
-  -- by a copy of the table, as code has it
-  pub by-table : (steps : List ℕ) → steps ≡ stepsOf w p → (crc byte step : ℕ) → crc < 2 ^ w → Fits w8 byte
-      → step ≡ getD steps (bitXor (crc / 2 ^ (w - byteBits)) byte) 0
-      → bitXor step (crc % 2 ^ (w - byteBits) * 2 ^ byteBits) ≡ crcByte w p crc byte
-  unfolding stepsOf
-  by-table steps is crc byte step small fit row =
-      let width : byteBits + (w - byteBits) ≡ w = omega arith in
-      let top-lt = shr-lt {n = crc} byteBits (w - byteBits) (rw width small) in
-      let inside = xor-lt byteBits (crc / 2 ^ (w - byteBits)) byte top-lt (omega arith) in
-      rw (row, is, tabulate-at (stepOf w p) 0 256 _ inside) (sym (by-step crc byte small))
+-- where the checksum has the byte's eight bits, or more: its top eight bits cancel
+pub by-table : (w p : ℕ) → byteBits ≤ w → p < 2 ^ w → (steps : List ℕ) → steps ≡ stepsOf w p → (crc byte step : ℕ) → crc < 2 ^ w → Fits w8 byte
+    → step ≡ getD steps (bitXor (crc / 2 ^ (w - byteBits)) byte) 0
+    → bitXor step (crc % 2 ^ (w - byteBits) * 2 ^ byteBits) ≡ crcByte w p crc byte
+by-table w p wide fits steps is crc byte step small fit row =
+    let width : byteBits + (w - byteBits) ≡ w = omega arith in
+    by-steps w p fits steps is crc (crc / 2 ^ (w - byteBits)) (crc % 2 ^ (w - byteBits) * 2 ^ byteBits) byte step small
+    (shr-lt {n = crc} byteBits (w - byteBits) (rw width small)) fit
+    (ap (crcOf w p crc) (own-bits w p crc small byteBits wide) ∙ own-in w p crc small byteBits wide) row
+
+-- where it has fewer, as CRC5: all of it cancels at the top of the byte. Computed, all 32
+all-cancel : tabulate 32 (λ c. crcByte 5 poly5 c (c * 2 ^ 3)) ≡ replicate 32 0
+unfolding tabulate crcStep
+all-cancel = refl
+
+pub by-table5 : (steps : List ℕ) → steps ≡ stepsOf 5 poly5 → (crc byte step : ℕ) → crc < 2 ^ 5 → Fits w8 byte
+    → step ≡ getD steps (bitXor (crc * 2 ^ 3) byte) 0 → step ≡ crcByte 5 poly5 crc byte
+by-table5 steps is crc byte step small fit row =
+    let gone : crcByte 5 poly5 crc (crc * 2 ^ 3) ≡ 0 =
+    sym (tabulate-at (λ c. crcByte 5 poly5 c (c * 2 ^ 3)) 0 32 crc small) ∙ ap (λ (l : List ℕ). getD l crc 0) all-cancel ∙ read-replicated 32 crc 0 in
+    sym (xor-zero-r step) ∙ by-steps 5 poly5 (lit< tt) steps is crc (crc * 2 ^ 3) 0 byte step small (omega arith) fit gone row

@@ -11,5 +11,7 @@ pub mod Apart
 pub mod Parity
 pub mod OddChanges
 pub mod FourBits
+pub mod Around
 pub mod Order178
 pub mod Checked16
+pub mod Adding

@@ -1,10 +1,10 @@
 -- What CRC5 sees of a change: the parity of a right header is fixed, so no odd number of changed bits leaves it right.
 -- Assumes nothing.
 use mathlib.Core.Path.{_≡_, refl, sym, ap, ap₂, _∙_}
-use mathlib.Core.Bool.{Bool, true, false, not, cond}
+use mathlib.Core.Bool.{not, cond}
 use mathlib.Core.Logic.{⊎-elim}
 use mathlib.Core.List.{List, [], _∷_, _++_, map, flatMap, reverse}
-use Prim.Native.Nat.{ℕ, zero, suc, _+_, _-_, _*_, _/_, _%_, _^_, _≤_, _<_}
+use Prim.Native.Nat.{ℕ, zero, suc, _+_, _-_, _*_, _/_, _%_, _^_, _<_}
 use native.Mathlib.Nat.{mod-lt, zero-add}
 use native.Mathlib.Omega.{arith}
 use lib.Count.{onesIn}
@@ -19,7 +19,7 @@ use Rattle.base.proofs.Doubles.{sum-cons, sum-plus, sum-add, sum-blocks}
 use Rattle.base.proofs.Ones.{ones-sum, ones-low}
 use Rattle.crc.specs.Crc.{bitsOf, bitsOfBytes}
 use Rattle.crc.specs.Crc5.{headerBit, filling, message, nineBytes, poly5, start5, countingBits, crc5Over, crc5Of, changedIn, Counts, Lost}
-use Rattle.crc.proofs.Nine.{messageBit, bitIn, byte-bit, message-header, message-filling}
+use Rattle.crc.proofs.Nine.{messageBit, byte-bit, message-header, message-filling}
 use Rattle.crc.proofs.Editions.{counting-kept, counting-lost, counts-or-lost}
 use Rattle.crc.proofs.Differences.{lastFirst, nine-turned}
 use Rattle.crc.proofs.Parity.{total, crc-parity, five-even}

@@ -1,18 +1,18 @@
 -- What CRC13 does not see: x has the order 178 modulo its polynomial, so two flipped bits that go in 178 places apart cancel.
 -- Assumes nothing.
 use mathlib.Core.Path.{_≡_, refl, sym, ap, ap₂, _∙_}
-use mathlib.Core.List.{List, [], _∷_, _++_, reverse, zipWith}
+use mathlib.Core.List.{List, [], _∷_, _++_, reverse}
 use Prim.Native.Nat.{ℕ, zero, suc, _-_, _^_, _<_}
 use native.Mathlib.Omega.{arith}
-use lib.Bits.{bitXor, xor-zero-r}
+use lib.Bits.{bitXor, xor-zero-r, xor-self}
 use lib.Dec.{lit<}
-use lib.ListN.{length, replicate, length-replicate}
+use lib.ListN.{length, length-replicate}
 use Rattle.base.specs.Lists.{AreBits}
-use Rattle.base.proofs.Tabulate.{read-replicated}
 use Rattle.crc.specs.Crc.{crcStep, crcOf, bitsOfBytes, poly13, start13, crc13Of}
 use Rattle.crc.proofs.Width.{step-lt, crc-lt}
 use Rattle.crc.proofs.Linear.{step-linear, crc-linear}
 use Rattle.crc.proofs.Loop.{crc-append}
+use Rattle.crc.proofs.Around.{zeros, are-zeros, zip-zeros, around-178}
 
 -- a bit, flipped
 flip-xor : (b : ℕ) → b < 2 → bitXor b 1 ≡ 1 - b
@@ -20,24 +20,23 @@ flip-xor zero h = refl
 flip-xor (suc zero) h = refl
 flip-xor (suc (suc b)) h = absurd (omega arith)
 
--- bits to which nothing is added
-zip-zeros : (bits : List ℕ) → zipWith bitXor bits (replicate (length bits) 0) ≡ bits
-unfolding zipWith
-zip-zeros [] = refl
-zip-zeros (b ∷ bs) = ap₂ (λ (x : ℕ) (xs : List ℕ). x ∷ xs) (xor-zero-r b) (zip-zeros bs)
-
 -- one flipped bit, and what the 177 bits after it make of it
 unfoldable after177 : ℕ
-after177 = crcOf 13 poly13 (crcStep 13 poly13 0 1) (replicate 177 0)
-
--- computed: a second flipped bit then leaves nothing
-cancels : crcStep 13 poly13 after177 1 ≡ 0
-unfolding after177 crcStep
-cancels = refl
+after177 = crcOf 13 poly13 (crcStep 13 poly13 0 1) (zeros 177)
 
 after-lt : after177 < 2 ^ 13
 unfolding after177
-after-lt = crc-lt 13 poly13 (lit< tt) (crcStep 13 poly13 0 1) (replicate 177 0) (step-lt 13 poly13 (lit< tt) 0 1)
+after-lt = crc-lt 13 poly13 (lit< tt) (crcStep 13 poly13 0 1) (zeros 177) (step-lt 13 poly13 (lit< tt) 0 1)
+
+-- one bit of zero more brings it back, so a second flipped bit leaves nothing
+cancels : crcStep 13 poly13 after177 1 ≡ 0
+unfolding after177
+cancels =
+    let flipped : ℕ = crcStep 13 poly13 0 1 in
+    let back : crcStep 13 poly13 after177 0 ≡ flipped = sym (crc-append 13 poly13 flipped (zeros 177) (0 ∷ [])) ∙ around-178 flipped (step-lt 13 poly13 (lit< tt) 0 1) in
+    ap (λ (s : ℕ). crcStep 13 poly13 s 1) (sym (xor-zero-r after177))
+    ∙ step-linear 13 poly13 after177 0 0 1 after-lt (lit< tt) (lit< tt) (lit< tt)
+    ∙ ap (λ (s : ℕ). bitXor s flipped) back ∙ xor-self flipped
 
 module _ (start a b : ℕ) (small : start < 2 ^ 13) (bit-a : a < 2) (bit-b : b < 2) (between : List ℕ) (far : length between ≡ 177) (bits : AreBits between) where
   one : crcStep 13 poly13 start (1 - a) ≡ bitXor (crcStep 13 poly13 start a) (crcStep 13 poly13 0 1)
@@ -47,7 +46,7 @@ module _ (start a b : ℕ) (small : start < 2 ^ 13) (bit-a : a < 2) (bit-b : b <
   unfolding after177
   all =
       ap₂ (λ (s : ℕ) (l : List ℕ). crcOf 13 poly13 s l) one (sym (rw far at (zip-zeros between)))
-      ∙ crc-linear 13 poly13 (lit< tt) between (replicate 177 0) (far ∙ sym (length-replicate {A = ℕ} 177 0)) bits (λ k. rw (read-replicated {A = ℕ} 177 k 0) (lit< tt))
+      ∙ crc-linear 13 poly13 (lit< tt) between (zeros 177) (far ∙ sym (length-replicate {A = ℕ} 177 0)) bits (are-zeros 177)
       (crcStep 13 poly13 start a) (crcStep 13 poly13 0 1) (step-lt 13 poly13 (lit< tt) start a) (step-lt 13 poly13 (lit< tt) 0 1)
 
   pub both : crcStep 13 poly13 (crcOf 13 poly13 (crcStep 13 poly13 start (1 - a)) between) (1 - b) ≡ crcStep 13 poly13 (crcOf 13 poly13 (crcStep 13 poly13 start a) between) b

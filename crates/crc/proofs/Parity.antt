@@ -1,7 +1,7 @@
 -- The parity of a checksum, for every width and polynomial whose terms, x^width among them, are even in number: that is, which has the
 -- factor x + 1. Then a checksum has the parity of its start and of all bits that went in.
 -- Assumes nothing.
-use mathlib.Core.Path.{_≡_, refl, sym, ap, ap₂, _∙_}
+use mathlib.Core.Path.{_≡_, refl, sym, ap₂, _∙_}
 use mathlib.Core.Bool.{Bool, true, false, cond}
 use mathlib.Core.List.{List, [], _∷_}
 use Prim.Native.Nat.{ℕ, zero, suc, _+_, _-_, _*_, _/_, _%_, _^_, _<_}
@@ -11,7 +11,7 @@ use native.Mathlib.Omega.{arith}
 use lib.Bits.{bitXor, differ}
 use lib.Count.{onesIn}
 use lib.Dec.{eqb, lit<}
-use lib.Pow.{pow-pos, shr-lt}
+use lib.Pow.{shr-lt}
 use borrow.Author.Tests.{eqb-true, eqb-false}
 use Rattle.base.specs.Lists.{AreBits, sumTo}
 use Rattle.base.proofs.Ones.{ones-sum, ones-low}

@@ -13,7 +13,7 @@ use Rattle.base.proofs.Tabulate.{tabulate-length, tabulate-at}
 use Rattle.base.proofs.Fold.{Downward, down-starts, down-goes-on}
 use Rattle.crc.specs.Crc5.{filling, message, nineBytes, poly5, start5, crc5Over, countedFlown, countingBits, crc5Of}
 use Rattle.crc.specs.Halves.{headerBits}
-use Rattle.crc.proofs.Loop.{crcByte, down-bytes}
+use Rattle.crc.proofs.Loop.{crcByte, down-bytes, down-lt}
 use Rattle.crc.proofs.Editions.{counted-is}
 
 -- byte 8: header bit 64 and the filling
@@ -67,6 +67,10 @@ module _ (hi lo : ℕ) (small : lo < 2 ^ 40) where
         inside = omega (arith, so .inside);
         done = down-goes-on (crcByte 5 poly5) start5 _ i crc 0 (so .done) h next (e ∙ ap (crcByte 5 poly5 crc) byte);
       }
+
+  -- its state has five bits all the way
+  pub nine-lt : (i crc : ℕ) → NineIn hi lo i crc → crc < 2 ^ 5
+  nine-lt i crc so = down-lt 5 poly5 (lit< tt) start5 (lit< tt) (nineBytes (headerBits hi lo)) i crc (so .done)
 
   pub nine-ends : (i crc : ℕ) → NineIn hi lo i crc → i ≤ 0 → crc ≡ crc5Over (headerBits hi lo)
   unfolding crc5Over

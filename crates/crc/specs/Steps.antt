@@ -4,6 +4,7 @@ use mathlib.Core.List.{List}
 use Prim.Native.Nat.{ℕ}
 use Rattle.base.specs.Lists.{tabulate}
 use Rattle.crc.specs.Crc.{byteBits, bitsOf, crcOf, poly13, poly16}
+use Rattle.crc.specs.Crc5.{poly5}
 
 -- the step of a byte: what its eight bits make of a checksum of 0
 unfoldable pub stepOf : ℕ → ℕ → ℕ → ℕ
@@ -18,3 +19,6 @@ steps13 = stepsOf 13 poly13
 
 abbrev pub steps16 : List ℕ
 steps16 = stepsOf 16 poly16
+
+abbrev pub steps5 : List ℕ
+steps5 = stepsOf 5 poly5

@@ -55,6 +55,12 @@ put-number srcId first second = put-then first second
 pub put-speaker : {l m : List ℕ} {at p : ℕ} (edition known : Edition) (srcId : ℕ) → edition ≡ known → Put l at (speakerOf known srcId) m p → Put l at (speakerOf edition srcId) m p
 put-speaker edition known srcId is put = rw is put
 
+-- the end of that line
+pub put-damage : {l m n o u : List ℕ} {at p q r v : ℕ} (tx flips worst number : ℕ) (name : List ℕ)
+    → Put l at (fieldOf tx " repaired ") m p → Put m p (fieldOf flips " worst ") n q → Put n q (decimalOf worst ++ name) o r → Put o r (fieldOf number "\n") u v
+    → Put l at (damageOf tx flips worst name number) u v
+put-damage tx flips worst number name first second third fourth = put-then (put-three first second third) fourth
+
 -- the line of an accepted record
 pub put-accepted : {l m n o : List ℕ} {at p q r : ℕ} (edition : Edition) (k srcId tx flips worst : ℕ) (name : List ℕ) (number : ℕ)
     → Put l at (openingOf edition k srcId) m p → Put m p (ascii " tx ") n q → Put n q (damageOf tx flips worst name number) o r

@@ -147,17 +147,10 @@ fn put_damage(
     ensures { λ r. ⌜ Put (now (out .entry)) at (damageOf tx flips worst (now (name .entry)) n) (now (out .exit)) r ⌝ }
     ensures { λ r. ⌜ r ≤ at + damageRoom ⌝ }
 {
-    let a = put_three(
-        out,
-        at,
-        tx as u64,
-        b" repaired ",
-        flips as u64,
-        b" worst ",
-        worst as u64,
-        name,
-    );
-    text::put_field(out, a, n as u64, b"\n")
+    let a = text::put_field(out, at, tx as u64, b" repaired ");
+    let b = text::put_field(out, a, flips as u64, b" worst ");
+    let c = text::put_field(out, b, worst as u64, name);
+    text::put_field(out, c, n as u64, b"\n")
 }
 
 // Puts the line of an accepted record or header.
