@@ -2,11 +2,14 @@
 
 import os
 import shutil
+import signal
 import subprocess
 import sys
 import tempfile
 import time
 import unittest
+
+import leftovers
 
 TOP = os.path.dirname(os.path.dirname(os.path.dirname(os.path.realpath(__file__))))
 MACHINE = os.uname().machine
@@ -35,6 +38,12 @@ BUILDS = 'mkdir -p target/bin; cp program target/bin/list; chmod +x target/bin/l
 # a build that waits for the file `go`
 WAITS = f"while [ ! -f go ]; do sleep 0.02; done\n{BUILDS}"
 LISTS = "#!/bin/sh\necho pass sheet\ncat\n"
+
+
+def heed_signals():
+    """Has no signal ignored that whoever started the tests ignores, as nohup does."""
+    for number in leftovers.SIGNALS:
+        signal.signal(number, signal.SIG_DFL)
 
 
 class Repository(unittest.TestCase):
@@ -82,7 +91,8 @@ class Repository(unittest.TestCase):
         return dict(PATH=":".join(self.at(name) for name in path), TMPDIR=self.at("tmp"), KIT=self.at("kit"), **more)
 
     def start(self, *words, first=(), path=("bin", "tools"), **options):
-        return subprocess.Popen([*first, os.path.join(self.top, "nolbreva"), *words], env=self.environment(path), text=True, **options)
+        command = [*first, os.path.join(self.top, "nolbreva"), *words]
+        return subprocess.Popen(command, env=self.environment(path), text=True, preexec_fn=heed_signals, **options)
 
     def run_it(self, *words, given="", **options):
         """Runs the front end to its end; answers status, standard output, and standard error."""
