@@ -33,12 +33,14 @@ class Row:
         return re.sub(r"\bP\b", str(place), self.says)
 
     def allows(self, place):
-        """Whether the number can have the place: `0 to 13`, `8 or more`, `any but 210` or a single number."""
-        numbers = [int(n) for n in re.findall(r"\d+", self.places.replace(",", ""))]
+        """Whether the number can have the place: `0 to 13`, `8 or more`, `any but 210`, `4, 5 or 8`, or a single number."""
+        numbers = [int(n) for n in re.findall(r"\d+", re.sub(r"(?<=\d),(?=\d)", "", self.places))]
         if self.places.startswith("any but "):
             return place not in numbers
         if self.places.endswith(" or more"):
             return place >= numbers[0]
+        if " or " in self.places:
+            return place in numbers
         return numbers[0] <= place <= numbers[-1]
 
 

@@ -34,15 +34,16 @@ class Table(unittest.TestCase):
     def test_each_row_says_its_place(self):
         for row in self.rows.values():
             self.assertTrue(row.place and row.says)
-            self.assertRegex(row.places, r"\A(\d[\d,]*( to \d[\d,]*| or more)?|any but \d+)\Z")
-            lowest = 0 if row.places.startswith("any") else int(re.match(r"[\d,]+", row.places)[0].replace(",", ""))
+            self.assertRegex(row.places, r"\A(\d[\d,]*( to \d[\d,]*| or more)?|any but \d+|\d+(, \d+)* or \d+)\Z")
+            lowest = 0 if row.places.startswith("any") else int(re.match(r"\d+(,\d+)*", row.places)[0].replace(",", ""))
             self.assertTrue(row.allows(lowest))
             self.assertTrue(lowest == 0 or not row.allows(lowest - 1))
             # a place that is always the same needs no word
             self.assertEqual(bool(re.search(r"\bP\b", row.says)), row.places != "0", row.number)
 
     def test_places(self):
-        for number, allowed, others in ((1, (0, 209, 211), (210,)), (3, (0, 13), (14,)), (15, (1024, 9999), (0, 1023)), (17, (65535,), (0, 65534, 65536))):
+        for number, allowed, others in ((1, (0, 209, 211), (210,)), (3, (0, 13), (14,)), (15, (1024, 9999), (0, 1023)), (17, (65535,), (0, 65534, 65536)),
+                                        (28, (4, 5, 8, 9, 10, 14, 15), (3, 6, 7, 11, 12, 13, 16))):
             for place in allowed:
                 self.assertTrue(self.rows[number].allows(place), (number, place))
             for place in others:

@@ -12,13 +12,11 @@ use Rattle.word.specs.declared.Repaired.the-variants.{Word}
 use Rattle.word.specs.Words.{wordLimit, flipCount}
 use Rattle.word.specs.Repairs.{isBeyond, wordOf, patternOf}
 use Rattle.word.proofs.Valids.{distance-is, distance-self}
-use Rattle.word.proofs.Nearest.{Close}
 use Rattle.word.proofs.Answer.{repair-close, repaired-close}
 use Rattle.air.specs.Air.{wordCount}
 use Rattle.air.specs.WordRepairs.{repairAt, firstBeyond, repairedOf, patternsIn, flipTotal, flipsIn}
 use Rattle.air.specs.Closeness.{AllClose, differences, distances, ValidWords}
 use Rattle.air.proofs.Answers.{flips-are-ones}
-use Rattle.base.specs.Lists.{tabulate}
 
 -- the places in which words differ, counted
 pub distances-are : (words valid : List ℕ) → distances words valid ≡ flipTotal (differences words valid)
@@ -29,7 +27,7 @@ distances-are words valid =
 module _ (words : List ℕ) (small : (j : ℕ) → getD words j 0 < wordLimit) where
   module _ (valid : List ℕ) (so : AllClose words valid) where
     restored-at : (j : ℕ) → j < wordCount → repairAt words j ≡ Word (getD valid j 0) (bitXor (getD words j 0) (getD valid j 0))
-    restored-at j h = repair-close (getD words j 0) (getD valid j 0) (small j) (record { valid = so .fourteen .each j h; near = so .near j h })
+    restored-at j h = repair-close (getD words j 0) (getD valid j 0) (small j) (so .each j h)
 
     pub restored-none : firstBeyond words ≡ wordCount
     unfolding firstBeyond
@@ -37,7 +35,7 @@ module _ (words : List ℕ) (small : (j : ℕ) → getD words j 0 < wordLimit) w
 
     pub restored-words : repairedOf words ≡ valid
     unfolding repairedOf
-    restored-words = tabulate-is (λ j. wordOf (repairAt words j)) 0 wordCount valid (so .fourteen .long) (λ j h. ap wordOf (restored-at j h))
+    restored-words = tabulate-is (λ j. wordOf (repairAt words j)) 0 wordCount valid (so .long) (λ j h. ap wordOf (restored-at j h))
 
     -- with the very places in which they differ
     pub restored-patterns : patternsIn words ≡ differences words valid
@@ -51,18 +49,19 @@ module _ (words : List ℕ) (small : (j : ℕ) → getD words j 0 < wordLimit) w
   pub repaired-all-close : firstBeyond words ≡ wordCount → AllClose words (repairedOf words)
   unfolding firstBeyond repairedOf
   repaired-all-close none = record {
-    fourteen = record { long = tabulate-length (λ j. wordOf (repairAt words j)) wordCount; each = λ j h. close j h .valid };
-    near = λ j h. close j h .near;
+    long = tabulate-length (λ j. wordOf (repairAt words j)) wordCount;
+    each = λ j h.
+        rw (tabulate-at (λ j. wordOf (repairAt words j)) 0 wordCount j h)
+        (repaired-close (getD words j 0) (small j) ((rw none at (lowest-is (λ j. isBeyond (repairAt words j)) wordCount .before)) j h));
   }
-    where
-      close : (j : ℕ) → j < wordCount → Close (getD words j 0) (getD (tabulate wordCount (λ j. wordOf (repairAt words j))) j 0)
-      close j h =
-          rw (tabulate-at (λ j. wordOf (repairAt words j)) 0 wordCount j h)
-          (repaired-close (getD words j 0) (small j) ((rw none at (lowest-is (λ j. isBeyond (repairAt words j)) wordCount .before)) j h))
+
+-- the words that they become are valid
+pub close-valid : (words valid : List ℕ) → AllClose words valid → ValidWords valid
+close-valid words valid so = record { long = so .long; each = λ j h. so .each j h .valid }
 
 -- nothing is flipped in words that came as they were sent
 pub close-self : (words : List ℕ) → ValidWords words → AllClose words words
-close-self words ok = record { fourteen = ok; near = λ j h. rw (distance-self (getD words j 0)) zero-le }
+close-self words ok = record { long = ok .long; each = λ j h. record { valid = ok .each j h; near = rw (distance-self (getD words j 0)) zero-le } }
 
 pub differences-self : (words : List ℕ) → differences words words ≡ replicate wordCount 0
 differences-self words =

@@ -1,8 +1,9 @@
--- The program's turns: the buffers keep their lengths, there is room to read on, and the frames can be counted.
+-- The program's turns: the frames of all turns that are left can be counted, and what `beesat_listing` leaves of a piece is less than a frame.
 -- Assumes nothing.
-use mathlib.Core.Path.{_≡_, refl, _∙_}
+use mathlib.Core.Path.{_≡_, refl}
+use mathlib.Core.Bool.{false}
 use mathlib.Core.List.{List}
-use Prim.Native.Nat.{ℕ, _+_, _-_, _*_, _^_, _<_, _≤_}
+use Prim.Native.Nat.{ℕ, _+_, _*_, _^_, _<_, _≤_}
 use native.Mathlib.Omega.{arith}
 use lib.ListN.{length, take}
 use Rattle.beesat.specs.Tables.{frameBytes}
@@ -10,49 +11,34 @@ use Rattle.beesat_lines.specs.declared.Counts.{Counts}
 use Rattle.beesat_lines.specs.Counting.{heardOf, noCounts}
 use Rattle.beesat_listing.specs.declared.Listed.{Listed}
 use Rattle.beesat_listing.specs.Promises.{Turns}
-use Rattle.beesat_listing.proofs.Keeping.{left-short, heard-few}
+use Rattle.beesat_listing.proofs.Keeping.{left-inside, left-short, heard-few}
 use Rattle.text.proofs.Sizes.{part-size}
+use Rattle.streams.specs.declared.Filled.{Filled}
 use Rattle.streams.specs.declared.Next.{Next}
-use Rattle.beesat_list.specs.declared.State.{State}
-use Rattle.beesat_list.specs.Turns.{bufferBytes, Turned}
-
--- what a turn leaves
-pub turn-leaves : (c : Counts) (buf : List ℕ) (end : ℕ) → length buf ≡ bufferBytes → end ≤ bufferBytes → (out buf′ out′ : List ℕ) (r : Listed) → Turns c buf end out buf′ out′ r
-    → (next : Next) → Turned c (record { counts = r .counts; kept = r .left; next = next })
-turn-leaves c buf end long inside out buf′ out′ r so next =
-    record {
-      short = left-short c buf end (rw long inside) out out′ r (so .listed);
-      few = omega (arith, heard-few c (take end buf) out 0 out′ r (so .listed), part-size buf end (rw long inside));
-    }
+use Rattle.streams.specs.Turns.{ReadOn, TurnsLeft}
+use Rattle.streams.proofs.Rounds.{Ready, starts, goes-on}
+use Rattle.beesat_list.specs.Sizes.{bufferBytes}
 
 -- what holds at each turn
-pub record Ready (out₀ buf out : List ℕ) (c : Counts) (kept turns : ℕ) : Type 0 where
-  pub room : 8 * bufferBytes ≤ length out₀
-  pub input : length buf ≡ bufferBytes
-  pub output : length out ≡ length out₀
-  pub short : kept < frameBytes
+pub record Counting (buf₀ out₀ buf out : List ℕ) (c : Counts) (kept turns : ℕ) : Type 0 where
+  pub ready : Ready frameBytes buf₀ out₀ buf out kept turns
+  pub size : length buf₀ ≤ bufferBytes
   pub few : heardOf c + bufferBytes * turns < 2 ^ 64
 
-pub starts : (buf out : List ℕ) (c : Counts) → c ≡ noCounts → length buf ≡ bufferBytes → 8 * bufferBytes ≤ length out → Ready out buf out c 0 0x2_0000_0000_0000
-starts buf out c none input room = record { room = room; input = input; output = refl; short = omega arith; few = rw none (omega arith) }
+pub starts-counting : (buf out : List ℕ) (c : Counts) (turns : ℕ) → length buf ≡ bufferBytes → c ≡ noCounts → bufferBytes * turns < 2 ^ 64 → Counting buf out buf out c 0 turns
+starts-counting buf out c turns size none few = record { ready = starts frameBytes buf out turns (omega arith) (omega arith); size = omega arith; few = rw none (omega (arith, few)) }
 
-module _ (out₀ buf out : List ℕ) (c : Counts) (kept turns : ℕ) (so : Ready out₀ buf out c kept turns) (h : 0 < turns) where
-  -- one more buffer can be counted
-  pub can-count : heardOf c + bufferBytes < 2 ^ 64
-  can-count = omega (arith, so .few)
-
-  -- a read and a turn later
-  pub goes-on : (read buf′ out′ : List ℕ) (r : State) → Turned c r → length read ≡ length buf → length buf′ ≡ length read → length out′ ≡ length out
-      → Ready out₀ buf′ out′ (r .counts) (r .kept) (turns - 1)
-  goes-on read buf′ out′ r turned same input output =
-      record {
-        room = so .room;
-        input = input ∙ same ∙ so .input;
-        output = output ∙ so .output;
-        short = turned .short;
-        few = omega (arith, so .few, turned .few);
-      }
-
-  -- the last line can be written
-  pub can-end : (r : State) → Turned c r → heardOf (r .counts) < 2 ^ 64
-  can-end r turned = omega (arith, so .few, turned .few)
+-- a read, the lines of what was read, and their write
+pub counts-on : (buf₀ out₀ buf out : List ℕ) (c : Counts) (kept turns : ℕ) → Counting buf₀ out₀ buf out c kept turns → (filled : Filled) → ReadOn buf kept filled → (read : List ℕ) → length read ≡ length buf
+    → (buf′ out′ : List ℕ) (r : Listed) → Turns c read (filled .end) out buf′ out′ r → length buf′ ≡ length read → length out′ ≡ length out → (next : Next) (turns′ : ℕ) → TurnsLeft turns next turns′
+    → Counting buf₀ out₀ buf′ out′ (r .counts) (r .left) turns′
+counts-on buf₀ out₀ buf out c kept turns so filled came read same buf′ out′ r done input output next turns′ turned =
+    let inside : filled .end ≤ length read = omega (arith, came .inside, same) in
+    let within : r .left ≤ filled .end = left-inside c read (filled .end) inside out out′ r (done .listed) in
+    record {
+      ready =
+          goes-on frameBytes buf₀ out₀ buf out kept turns (so .ready) read buf′ out′ (r .left) false next turns′ same input output
+          (omega (arith, inside, within)) (λ e. left-short c read (filled .end) inside out out′ r (done .listed)) (λ e. refl) turned;
+      size = so .size;
+      few = omega (arith, so .few, so .size, so .ready .input, came .inside, turned .fewer, heard-few c (take (filled .end) read) out 0 out′ r (done .listed), part-size read (filled .end) inside);
+    }

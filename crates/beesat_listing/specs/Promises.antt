@@ -8,12 +8,18 @@ use Rattle.text.specs.Text.{Put}
 use Rattle.record.specs.Moves.{Moved}
 use Rattle.beesat.specs.Reading.{readOf}
 use Rattle.beesat_lines.specs.declared.Counts.{Counts}
-use Rattle.beesat_lines.specs.Counting.{heardOf}
-use Rattle.beesat_lines.specs.Lines.{frameLine}
+use Rattle.beesat_lines.specs.Counting.{noCounts, heardOf}
+use Rattle.beesat_lines.specs.Lines.{title, frameLine}
 use Rattle.beesat_lines.specs.Rooms.{lineRoom}
+use Rattle.beesat_listing.specs.declared.Opened.{Opened}
 use Rattle.beesat_listing.specs.declared.Taken.{Taken}
 use Rattle.beesat_listing.specs.declared.Listed.{Listed}
 use Rattle.beesat_listing.specs.Listing.{framesOf, restOf, nextCounts, linesAfter, countsAfter}
+
+-- a listing was opened: nothing is counted, and the first line is put
+pub record Opens (before after : List ℕ) (r : Opened) : Type 0 where
+  pub counts-are : r .counts ≡ noCounts
+  pub line : Put before 0 title after (r .to)
 
 -- a frame was taken: the counts after it, and its line
 pub record Takes (c : Counts) (frame before : List ℕ) (at : ℕ) (after : List ℕ) (r : Taken) : Type 0 where

@@ -1,14 +1,25 @@
-// The listing of frames of BEESAT-1: a line for each of the whole frames of a piece.
+// The listing of frames of BEESAT-1: its first line, a line for each of the whole frames of a piece, and its last lines.
 use beesat::FRAME_BYTES;
 use beesat_lines::Counts;
 use beesat_lines::counted;
 use beesat_lines::heard;
+use beesat_lines::put_closing;
 use beesat_lines::put_line;
+use beesat_lines::put_title;
 ghost use Prim.Native.Nat.{_+_, _*_, _<_, _≤_, _^_};
+ghost use lib.Dec.{ltb};
 ghost use lib.ListN.{length};
+ghost use Rattle.text.specs.Text.{Put};
 ghost use Rattle.beesat_lines.specs.Counting.{heardOf};
+ghost use Rattle.beesat_lines.specs.Lines.{closingOf};
 ghost use Rattle.beesat_lines.specs.Rooms.{lineRoom};
-ghost use Rattle.beesat_listing.specs.Promises.{Takes, Scanned, Turns};
+ghost use Rattle.beesat_listing.specs.Promises.{Opens, Takes, Scanned, Turns};
+
+// A listing was opened: the counts of no frame, and the place after the first line.
+pub struct Opened {
+    pub counts: Counts,
+    pub to: usize,
+}
 
 // A frame was taken: the counts after it, and the place after its line.
 pub struct Taken {
@@ -21,6 +32,22 @@ pub struct Listed {
     pub counts: Counts,
     pub left: usize,
     pub to: usize,
+}
+
+// Opens a listing: puts the first line.
+pub fn open(out: &mut [u8]) -> Opened
+    requires { ⌜ lineRoom ≤ length (now out) ⌝ }
+    ensures { λ r. ⌜ Opens (now (out .entry)) (now (out .exit)) r ⌝ }
+{
+    let to = put_title(out);
+    Opened {
+        counts: Counts {
+            telemetry: 0,
+            idle: 0,
+            refused: 0,
+        },
+        to,
+    }
 }
 
 // Reads a frame, and puts its line into `out` at `to`.
@@ -69,4 +96,13 @@ pub fn list_piece(counts: Counts, buf: &mut [u8], end: usize, out: &mut [u8]) ->
     let left = listed.left;
     record::keep(buf, end - left, left);
     listed
+}
+
+// Closes a listing: puts the last line, after `cut` where bytes are left.
+pub fn close(counts: Counts, left: usize, out: &mut [u8]) -> usize
+    requires { ⌜ heardOf counts < 2 ^ 64 ⌝ }
+    requires { ⌜ 2 * lineRoom ≤ length (now out) ⌝ }
+    ensures { λ r. ⌜ Put (now (out .entry)) 0 (closingOf counts (ltb 0 left)) (now (out .exit)) r ⌝ }
+{
+    put_closing(out, 0, counts, 0 < left)
 }

@@ -1,7 +1,18 @@
-// A test program: the marks of a short recording on standard input, found whole, cut in two at every place, and bit by bit.
+// A test program: the marks of a short recording on standard input, found whole, cut in two at every place, and bit by bit; and how many of
+// their headers are accepted, alone and with the call sign of each satellite.
+use base::Edition;
+use header::Answer;
+use header::Read;
 use libc::STDIN_FILENO;
 use libc::STDOUT_FILENO;
+use marks::MARKER_BITS;
+use marks::Mark;
 use marks::State;
+use marks::Step;
+use marks::Taken;
+use marks::WINDOW_BITS;
+ghost use mathlib.Core.Path.{_≡_};
+ghost use Rattle.marks.specs.Pieces.{stepOf, takenOf};
 
 // The most marks that are compared.
 const MOST: usize = 64;
@@ -9,8 +20,25 @@ const MOST: usize = 64;
 // More than any number of marks: one was another.
 const OTHER: usize = MOST + 1;
 
+// No satellite: a header alone.
+const NO_CALL: u8 = 4;
+
 fn say(text: &[u8]) {
     io::write_all(STDOUT_FILENO, text);
+}
+
+// What `marks::find` answers, by a reader of the piece that is moved to the position.
+fn found(state: State, piece: &[u8], at: usize) -> Step
+    ensures { λ r. ⌜ r ≡ stepOf state (now (piece .entry)) at ⌝ }
+{
+    marks::next(marks::moved(marks::new(piece), at), state)
+}
+
+// What `marks::take` answers, by a reader of the piece that is closed.
+fn closed(state: State, piece: &[u8]) -> Taken
+    ensures { λ r. ⌜ r ≡ takenOf state (now (piece .entry)) ⌝ }
+{
+    marks::close(marks::new(piece), state)
 }
 
 // The places of the marks of a piece after a state; how many there are.
@@ -18,7 +46,7 @@ fn collect(state: State, piece: &[u8], places: &mut [u32; MOST]) -> usize {
     let mut n = 0;
     let mut at = 0;
     while n < MOST {
-        let step = marks::find(state, piece, at);
+        let step = found(state, piece, at);
         if !step.found {
             return n;
         }
@@ -80,11 +108,56 @@ fn bit_by_bit(bits: &[u8], places: &[u32; MOST]) -> usize {
     while i < bits.len() {
         let end = i + 1;
         n = agree(state, &bits[i..end], places, n);
-        let taken = marks::take(state, &bits[i..end]);
+        let taken = closed(state, &bits[i..end]);
         state = taken.state;
         i = end;
     }
     n
+}
+
+// What is read of the header in a window with the call sign of a satellite.
+fn read_signed(window: [u8; WINDOW_BITS], satellite: u8) -> Read {
+    let call = sign::call_sign(satellite);
+    let rules = header::usual(Edition::Flown);
+    header::read_header_signed(rules, &call, &window[MARKER_BITS..])
+}
+
+// What is read of a mark's header: alone, or with the call sign of a satellite.
+fn read(mark: Mark, satellite: u8) -> Read {
+    if satellite == NO_CALL {
+        return search::read_mark(Edition::Flown, mark);
+    }
+    let window = mark.window;
+    read_signed(window, satellite)
+}
+
+fn is_accepted(answer: Answer) -> bool {
+    match answer {
+        Answer::Accepted { .. } => true,
+        Answer::Refused(_) => false,
+    }
+}
+
+// How many headers of the bits are accepted so.
+fn accepted(bits: &[u8], satellite: u8) -> u64 {
+    let mut good: u64 = 0;
+    let mut at = 0;
+    let mut n = 0;
+    while n < MOST {
+        let step = marks::find(marks::fresh(), bits, at);
+        if !step.found {
+            return good;
+        }
+        let mark = step.mark;
+        let header = read(mark, satellite);
+        let answer = header.answer;
+        if is_accepted(answer) {
+            good = std::num::wrapping_add_u64(good, 1);
+        }
+        at = step.next;
+        n += 1;
+    }
+    good
 }
 
 fn told(name: &[u8], number: u64) {
@@ -103,4 +176,9 @@ fn main() {
     told(b"marks ", marks as u64);
     told(b"cuts with the same marks ", all_cuts(bits, &places, marks));
     told(b"marks bit by bit ", bit_by_bit(bits, &places) as u64);
+    told(b"accepted ", accepted(bits, NO_CALL));
+    told(b"accepted with the call sign of A ", accepted(bits, 0));
+    told(b"accepted with the call sign of B ", accepted(bits, 1));
+    told(b"accepted with the call sign of C ", accepted(bits, 2));
+    told(b"accepted with the call sign of D ", accepted(bits, 3));
 }

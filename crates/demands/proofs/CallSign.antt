@@ -1,17 +1,17 @@
 -- REQUEST e. "Without them a frame is judged as before; under the corrected edition they aren't looked at."
 -- Assumes nothing.
-use mathlib.Core.Path.{_≡_, refl, ap}
+use mathlib.Core.Path.{_≡_, refl}
 use mathlib.Core.List.{List}
 use Prim.Native.Nat.{ℕ}
 use Rattle.base.specs.declared.Edition.{Edition}
 use Rattle.base.specs.declared.Edition.the-variants.{Corrected}
 use Rattle.base.specs.Checks.{first}
 use Rattle.header.specs.declared.Rules.{Rules}
-use Rattle.header.specs.Reading.{Signal, signal, signed, repairedAnswer, readHeaderOf}
+use Rattle.header.specs.Reading.{signal, signed, repairedAnswer, readHeaderOf}
 use Rattle.header.specs.Patterns.{headerRead}
-use Rattle.frame.specs.Frames.{Frame, frame, signedFrame, frameOf, frameRead}
+use Rattle.frame.specs.Frames.{frame, signedFrame, frameOf, frameRead}
 use Rattle.sheet.specs.declared.Sheet.{Sheet}
-use Rattle.sheet.specs.Sheets.{offerOf}
+use Rattle.sheet.specs.Sheets.{offerAnswer, offerOf}
 use Rattle.demands.specs.Unsigned.{headerChecksBefore, frameChecksBefore}
 
 -- "Without them a frame is judged as before": by the rows without 23 and 24
@@ -25,18 +25,15 @@ frame-as-before rules air payload = refl
 
 -- "under the corrected edition they aren't looked at": what is read with them is what is read without them, on a sheet of either edition too
 module _ (rules : Rules) (corrected : rules .edition ≡ Corrected) (call air : List ℕ) where
-  not-looked-at : signed rules call air ≡ signal rules air
-  not-looked-at = rw corrected
-
   pub header-corrected : headerRead (signed rules call air) ≡ headerRead (signal rules air)
-  header-corrected = ap headerRead not-looked-at
+  unfolding headerRead readHeaderOf
+  header-corrected = rw corrected
 
   module _ (payload : List ℕ) where
-    same-frame : signedFrame rules call air payload ≡ frame rules air payload
-    same-frame = ap (λ (s : Signal). record { head = s; payload = payload }) not-looked-at
-
     pub frame-corrected : frameRead (signedFrame rules call air payload) ≡ frameRead (frame rules air payload)
-    frame-corrected = ap frameRead same-frame
+    unfolding frameRead frameOf
+    frame-corrected = rw corrected
 
     pub offer-corrected : (own : Edition) (sheet : Sheet) → offerOf own sheet (signedFrame rules call air payload) ≡ offerOf own sheet (frame rules air payload)
-    offer-corrected own sheet = ap (offerOf own sheet) same-frame
+    unfolding offerAnswer
+    offer-corrected own sheet = rw corrected

@@ -33,6 +33,8 @@ use Rattle.sheet.specs.Sheets.{heardOf, fullSheet, sameEdition, editionOf, offe
 use Rattle.sheet.proofs.Offering.{answers-frame, full-refuses, other-refuses, offered-answer}
 use Rattle.sheet.proofs.Refusals.{offered-exactly, refused-keeps}
 use Rattle.air.specs.Air.{wordCount}
+use Rattle.record_writer.specs.Writing.{recordChecks, writeRecordOf, afterRecord, RecordWritten}
+use Rattle.record_writer.proofs.Answering.{record-exactly}
 
 -- 20, 1, 2, 23, 3, 21, 4, 5, 24, 6
 pub header-refused-exactly : (s : Signal) (why : Refusal) → Exactly (readHeaderOf s) (Refused why) (signalChecks s)
@@ -54,6 +56,14 @@ write-refused-exactly = write-exactly
 pub write-refused-unchanged : (edition : Edition) (f : Fields) (payload before after : List ℕ) (r : Written) (why : Refusal)
     → HeaderWritten edition f payload before r after → r ≡ NotWritten why → after ≡ before
 write-refused-unchanged edition f payload before after r why so e = so .bytes ∙ ap (λ (w : Written). afterWrite w edition f payload before) e
+
+-- the same of a record, where 13 is of the record's room
+pub record-refused-exactly : (edition : Edition) (f : Fields) (payload : List ℕ) (room : ℕ) (why : Refusal) → Exactly (writeRecordOf edition f payload room) (NotWritten why) (recordChecks edition f payload room)
+record-refused-exactly = record-exactly
+
+pub record-refused-unchanged : (edition : Edition) (f : Fields) (payload before after : List ℕ) (r : Written) (why : Refusal)
+    → RecordWritten edition f payload before r after → r ≡ NotWritten why → after ≡ before
+record-refused-unchanged edition f payload before after r why so e = so .bytes ∙ ap (λ (w : Written). afterRecord w edition f payload before) e
 
 -- 9 to 12
 pub page-refused-exactly : (payload : List ℕ) (number place : ℕ)

@@ -22,7 +22,7 @@ use Rattle.word.proofs.Answer.{table-answers}
 use Rattle.air.specs.Air.{wordCount, airBits}
 use Rattle.air.specs.WordRepairs.{flipTotal}
 use Rattle.air.specs.Flips.{mostFlips, differsAt, flipsBetween, flipsInWord, flipPatterns, Burst}
-use Rattle.sign.specs.Calls.{Call, Agrees}
+use Rattle.sign.specs.Calls.{Call, lookedAt, Agrees}
 use Rattle.header.specs.declared.Fields.{Fields}
 use Rattle.header.specs.declared.Rules.{Rules}
 use Rattle.header.specs.Rules.{usualRules}
@@ -31,11 +31,12 @@ use Rattle.header.specs.declared.Answer.the-variants.{Accepted, Refused}
 use Rattle.base.specs.declared.Written.the-variants.{Done}
 use Rattle.header.specs.Fields.{satelliteOf}
 use Rattle.header.specs.Writing.{headerFor, HeaderWritten}
-use Rattle.header.proofs.WrittenAir.{Sent, sent}
 use Rattle.air.proofs.Flipped.{flipPatterns-bit, flipPatterns-total}
 use Rattle.frame.specs.Frames.{frame, frameWith, frameOf, frameRead}
-use Rattle.frame.proofs.Damage.{restored-frame, restored-burst}
+use Rattle.frame.proofs.Rules.{rules-then-reader}
+use Rattle.frame.proofs.Writing.{with-payload}
 use Rattle.demands.specs.Zeros.{sentZeros, burstZeros}
+use Rattle.demands.proofs.Headers.{Restored, few-restored, burst-restored}
 use Rattle.demands.proofs.LongBurst.{burst-of-43}
 
 -- "The repair table .. equals trying all 32 valid words on each of the 32,768 words": `repairOf` tries the words, `byRow` takes the row
@@ -47,29 +48,32 @@ pub table-rows : (howMany tableRows (λ r. leb (onesIn positions (rowOf r)) radi
 table-rows = (rows-with-pattern, rows-marked)
 
 -- the writer was handed an edition, some fields, a payload and an output, and wrote; on the way some of the 210 bits were flipped; and the
--- reader was handed rules of the same edition with "a limit of at most 42", and no call sign or that of the satellite
+-- reader was handed rules of the same edition with "a limit of at most 42", and no call sign that is looked at, or that of the satellite
 module _ (rules : Rules) (allowed : rules .limit ≤ mostFlips) (f : Fields) (payload before after : List ℕ) (written : HeaderWritten (rules .edition) f payload before Done after)
-    (call : Call) (agrees : Agrees call (satelliteOf (f .«src_id»))) (air : List ℕ) (long : length air ≡ airBits) (bits : AreBits air) where
-  so : Sent (rules .edition) f payload after
-  so = sent (rules .edition) f payload before after written
-
+    (call : Call) (agrees : Agrees (lookedAt (rules .edition) call) (satelliteOf (f .«src_id»))) (air : List ℕ) (long : length air ≡ airBits) (bits : AreBits air) where
   -- "reads back as that very header with the exact number of flips", and the exact pattern of every word
   abbrev pub ReadBack : Type 0
   ReadBack =
       frameRead (frameWith rules call air payload)
       ≡ record { answer = Accepted (headerFor (rules .edition) f payload) (flipsBetween air (take airBits after)); patterns = flipPatterns air (take airBits after) }
 
+  -- as the header alone is (`Headers`), so is it with its payload
+  read-back : Restored rules f payload before after written call allowed agrees air long bits → ReadBack
+  read-back restored =
+      rules-then-reader (frameWith rules call air payload) (headerFor (rules .edition) f payload) (flipsBetween air (take airBits after)) (flipPatterns air (take airBits after))
+      (with-payload (rules .edition) f (frameWith rules call air payload) (flipsBetween air (take airBits after)) (flipPatterns air (take airBits after)) restored)
+
   -- "a written header with at most three flips in each word", and "the total of flips to be at most the limit"
   pub three-in-each-word : ((j : ℕ) → j < wordCount → flipsInWord air (take airBits after) j ≤ radius) → flipsBetween air (take airBits after) ≤ rules .limit → ReadBack
-  three-in-each-word = rw (so .air) (restored-frame rules f payload air bits (so .writable) long allowed call agrees)
+  three-in-each-word few within = read-back (few-restored rules f payload before after written call allowed agrees air long bits few within)
 
   -- "or a burst": under a limit l a burst of up to l neighbouring bits is always undone. Its flips then keep within the limit.
   pub burst-undone : (start : ℕ) → Burst (rules .limit) start air (take airBits after) → ReadBack
-  burst-undone = rw (so .air) (restored-burst rules f payload air bits (so .writable) long allowed call agrees)
+  burst-undone start burst = read-back (burst-restored rules f payload before after written call allowed agrees air long bits start burst)
 
 -- "a burst of up to 42 neighbouring bits" needs the limit 42, which the listing names; where no limit is named, 28 are undone
 module _ (edition : Edition) (f : Fields) (payload before after : List ℕ) (written : HeaderWritten edition f payload before Done after)
-    (call : Call) (agrees : Agrees call (satelliteOf (f .«src_id»))) (air : List ℕ) (long : length air ≡ airBits) (bits : AreBits air) where
+    (call : Call) (agrees : Agrees (lookedAt edition call) (satelliteOf (f .«src_id»))) (air : List ℕ) (long : length air ≡ airBits) (bits : AreBits air) where
   pub burst-of-42 : (start : ℕ) → Burst 42 start air (take airBits after) → ReadBack (listedRules edition) (lit≤ tt) f payload before after written call agrees air long bits
   burst-of-42 = burst-undone (listedRules edition) (lit≤ tt) f payload before after written call agrees air long bits
 

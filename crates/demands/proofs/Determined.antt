@@ -12,7 +12,7 @@ use Rattle.word.specs.Repairs.{repairOf, syndromes}
 use Rattle.crc.specs.Crc.{crc13Of, crc16Of}
 use Rattle.air.specs.Air.{firstNoBit}
 use Rattle.sign.specs.CallSigns.{signOf}
-use Rattle.sign.specs.Calls.{callOf, looksAt, faultAt, otherAt}
+use Rattle.sign.specs.Calls.{callOf, looksAt, lookedAt, faultAt, otherAt}
 use Rattle.header.specs.declared.Fields.{Fields}
 use Rattle.header.specs.declared.Read.{Read}
 use Rattle.header.specs.declared.Rules.{Rules}
@@ -42,7 +42,11 @@ use Rattle.sheet.specs.declared.wide.WideOffered.{WideOffered}
 use Rattle.sheet.specs.Wide.{held, widened, wideOffered}
 use Rattle.sheet.specs.Records.{nextOf}
 use Rattle.sheet.specs.Lanes.{hearOf, summedOf}
-use Rattle.sheet.specs.Sheets.{newSheet, countsAfter, acceptedOf, refusedOf, heardOf, fullOf, offerOf, displayOf}
+use Rattle.sheet.specs.Sheets.{countedAt, newSheet, countsAfter, acceptedOf, refusedOf, heardOf, fullOf, offerOf, displayOf}
+use Rattle.unpacking.specs.Unpacking.{cutWith}
+use Rattle.packing.specs.declared.Judged.{Judged}
+use Rattle.packing.specs.Packing.{fineOf}
+use Rattle.packing.specs.Pieces.{opened}
 use Rattle.lines.specs.declared.Tally.{Tally}
 use Rattle.lines.specs.Tallies.{totalOf}
 use Rattle.page_lines.specs.declared.Counts.{Counts}
@@ -94,14 +98,16 @@ worst-one patterns r s = one
 pub call-sign-one : (satellite : ℕ) (r s : List ℕ) → r ≡ signOf satellite → s ≡ signOf satellite → r ≡ s
 call-sign-one satellite r s = one
 
-pub looks-at-one : (edition : Edition) (r s : Bool) → r ≡ looksAt edition → s ≡ looksAt edition → r ≡ s
-looks-at-one edition r s = one
+pub looks-at-one : (edition : Edition) (given r s : Bool) → r ≡ looksAt edition given → s ≡ looksAt edition given → r ≡ s
+looks-at-one edition given r s = one
 
-pub fault-at-one : (looked : Bool) (call : List ℕ) (r s : ℕ) → r ≡ faultAt (callOf looked call) → s ≡ faultAt (callOf looked call) → r ≡ s
-fault-at-one looked call r s = one
+pub fault-at-one : (edition : Edition) (given : Bool) (call : List ℕ) (r s : ℕ)
+    → r ≡ faultAt (lookedAt edition (callOf given call)) → s ≡ faultAt (lookedAt edition (callOf given call)) → r ≡ s
+fault-at-one edition given call r s = one
 
-pub other-at-one : (looked : Bool) (call : List ℕ) (satellite r s : ℕ) → r ≡ otherAt (callOf looked call) satellite → s ≡ otherAt (callOf looked call) satellite → r ≡ s
-other-at-one looked call satellite r s = one
+pub other-at-one : (edition : Edition) (given : Bool) (call : List ℕ) (satellite r s : ℕ)
+    → r ≡ otherAt (lookedAt edition (callOf given call)) satellite → s ≡ otherAt (lookedAt edition (callOf given call)) satellite → r ≡ s
+other-at-one edition given call satellite r s = one
 
 pub with-patterns-one : (answer : Answer) (patterns : List ℕ) (r s : Read) → r ≡ beside patterns answer → s ≡ beside patterns answer → r ≡ s
 with-patterns-one answer patterns r s = one
@@ -183,6 +189,9 @@ hear-one source header flips r s = one
 pub refuse-one : (counts : List ℕ) (number : ℕ) (r s : List ℕ) → r ≡ countsAfter counts number → s ≡ countsAfter counts number → r ≡ s
 refuse-one counts number r s = one
 
+pub counted-number-one : (k r s : ℕ) → r ≡ countedAt k → s ≡ countedAt k → r ≡ s
+counted-number-one k r s = one
+
 pub summed-one : (source : Source) (r s : Display) → r ≡ summedOf source → s ≡ summedOf source → r ≡ s
 summed-one source r s = one
 
@@ -211,6 +220,15 @@ heard-wide-one sheet r s = one
 
 pub full-wide-one : (sheet : WideSheet) (r s : Bool) → r ≡ fullOf Corrected (held sheet) → s ≡ fullOf Corrected (held sheet) → r ≡ s
 full-wide-one sheet r s = one
+
+pub unpacking-close-one : (left : ℕ) (r s : Bool) → r ≡ cutWith left → s ≡ cutWith left → r ≡ s
+unpacking-close-one left r s = one
+
+pub is-fine-one : (judged : Judged) (r s : Bool) → r ≡ fineOf judged → s ≡ fineOf judged → r ≡ s
+is-fine-one judged r s = one
+
+pub packing-open-one : (r s : Judged) → r ≡ opened → s ≡ opened → r ≡ s
+packing-open-one r s = one
 
 pub next-record-one : (rest : List ℕ) (r s : Cut) → r ≡ cutOf rest → s ≡ cutOf rest → r ≡ s
 next-record-one rest r s = one

@@ -1,6 +1,9 @@
+pub mod Nearest
+pub mod Headers
 pub mod Demand1
 pub mod Demand2
 pub mod Demand3
+pub mod Histories
 pub mod Lanes
 pub mod LongBurst
 pub mod Editions
@@ -12,3 +15,4 @@ pub mod CallSign
 pub mod Beesat
 pub mod PowerTable
 pub mod Recorded
+pub mod Lines

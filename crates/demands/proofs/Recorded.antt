@@ -9,15 +9,16 @@ use Rattle.base.specs.declared.Edition.{Edition}
 use Rattle.base.specs.declared.Written.the-variants.{Done}
 use Rattle.air.specs.Air.{wordCount, payloadLimit}
 use Rattle.air.specs.Flips.{mostFlips}
-use Rattle.sign.specs.Calls.{Call, Agrees}
+use Rattle.sign.specs.Calls.{Call, lookedAt, Agrees}
 use Rattle.header.specs.declared.Fields.{Fields}
 use Rattle.header.specs.declared.Rules.{Rules}
 use Rattle.header.specs.declared.Answer.the-variants.{Accepted}
 use Rattle.header.specs.Fields.{satelliteOf}
 use Rattle.header.specs.Writing.{headerFor}
+use Rattle.header.proofs.Writing.{written-accepted}
 use Rattle.frame.specs.Frames.{frameWith, frameRead}
 use Rattle.frame.proofs.Rules.{rules-then-reader}
-use Rattle.frame.proofs.Writing.{written-accepted}
+use Rattle.frame.proofs.Writing.{with-payload}
 use Rattle.record.specs.declared.Cut.the-variants.{Record}
 use Rattle.record.specs.Records.{airIn, payloadIn, cutOf}
 use Rattle.record_writer.specs.Writing.{writeRecordOf, RecordWritten}
@@ -26,9 +27,9 @@ use Rattle.record_writer.proofs.ReadBack.{Recorded, recorded}
 use Rattle.record_writer.proofs.LongPayload.{long-refused}
 
 -- the writer was handed an edition, some fields, a payload and an output, and wrote; the reader is handed rules of the same edition with a limit of at
--- most 42, and no call sign or that of the satellite
+-- most 42, and no call sign that is looked at, or that of the satellite
 module _ (rules : Rules) (allowed : rules .limit ≤ mostFlips) (f : Fields) (payload before after : List ℕ) (written : RecordWritten (rules .edition) f payload before Done after)
-    (call : Call) (agrees : Agrees call (satelliteOf (f .«src_id»))) where
+    (call : Call) (agrees : Agrees (lookedAt (rules .edition) call) (satelliteOf (f .«src_id»))) where
   so : Recorded (rules .edition) f payload after
   so = recorded (rules .edition) f payload before after written
 
@@ -42,7 +43,7 @@ module _ (rules : Rules) (allowed : rules .limit ≤ mostFlips) (f : Fields) (pa
   recorded-read =
       ap₂ (λ (air bytes : List ℕ). frameRead (frameWith rules call air bytes)) (so .air) (so .payload-there)
       ∙ rules-then-reader (frameWith rules call _ payload) (headerFor (rules .edition) f payload) 0 (replicate wordCount 0)
-      (written-accepted rules f payload call (so .writable) allowed agrees)
+      (with-payload (rules .edition) f (frameWith rules call _ payload) 0 (replicate wordCount 0) (written-accepted rules f payload call (so .writable) allowed agrees))
 
 -- A payload that is too long to be held is refused as its part is, but for the length that 15 tells
 pub part-refused : (edition : Edition) (f : Fields) (part payload : List ℕ) (room : ℕ) → payloadLimit < length part → payloadLimit < length payload

@@ -13,6 +13,7 @@ use Rattle.base.specs.declared.Refusal.{Refusal}
 use Rattle.base.specs.Checks.{Exactly}
 use Rattle.base.specs.Lists.{AreBits}
 use Rattle.base.proofs.First.{NoneApplies}
+use Rattle.header.specs.declared.Answer.the-variants.{Refused as NotAccepted}
 use Rattle.header.specs.Reading.{limitAbove42, not210Long, noBit}
 use Rattle.marks.specs.declared.Mark.{Mark}
 use Rattle.marks.specs.declared.State.{State}
@@ -22,11 +23,11 @@ use Rattle.marks.specs.Pieces.{longestRecording, pieceChecks, verdictOf, freshS
 use Rattle.marks.specs.Reports.{MarkOf, Rising, Run}
 use Rattle.marks.proofs.Exactly.{given, only, ascending}
 use Rattle.marks.proofs.Cuts.{however-kept}
-use Rattle.marks.proofs.Runs.{LeftOut, left-out, whole-taken}
+use Rattle.marks.proofs.Runs.{Ran, a-run-exists, LeftOut, left-out, whole-taken}
 use Rattle.marks.proofs.Verdicts.{piece-exactly}
-use Rattle.search.specs.Reports.{reportOf, reportsOf}
+use Rattle.search.specs.Reports.{markRead, reportOf, reportsOf}
 use Rattle.search.proofs.Given.{however-reported}
-use Rattle.search.proofs.Rows.{signalOf, never-20-1-2}
+use Rattle.search.proofs.Rows.{signalOf, never-20-1-2, never-23-24-7-8, refused-3-21-4-5-6}
 
 -- EACH PLACE, and no other; "each once, ascending"
 module _ (recording : List ℕ) where
@@ -48,6 +49,10 @@ module _ (edition : Edition) (pieces : List (List ℕ)) (ms : List Mark) (run : 
   pub reports-of-all : AreBits (flatten pieces) → length (flatten pieces) ≤ longestRecording → map (reportOf edition) ms ≡ reportsOf edition (flatten pieces)
   reports-of-all bits room = reports-of-the-whole ∙ ap (reportsOf edition) (whole-taken pieces bits room)
 
+-- and there is such a run, whatever the pieces are
+pub every-run : (pieces : List (List ℕ)) → Ran freshState pieces
+every-run = a-run-exists
+
 -- "the last 242 bits are kept between pieces"
 pub kept-between : (pieces : List (List ℕ)) → allAfter freshState pieces ≡ grown (allBits freshState pieces)
 kept-between = however-kept
@@ -59,7 +64,16 @@ piece-refused-exactly = piece-exactly
 pub refused-leaves : (s : State) (piece : List ℕ) (why : Refusal) (pieces : List (List ℕ)) → verdictOf (s .total) piece ≡ Refused why → LeftOut s piece why pieces
 refused-leaves = left-out
 
--- the checks 20, 1 and 2 never apply to a report, so its refusals are 3, 21, 4, 5 and 6
+-- the checks 20, 1 and 2 never apply to a report
 pub no-20-1-2 : (edition : Edition) (recording : List ℕ) → AreBits recording → (m : Mark) → List·Memᴰ m (marksOf recording)
     → NoneApplies (limitAbove42 (signalOf edition m) ∷ not210Long (signalOf edition m) ∷ noBit (signalOf edition m) ∷ [])
 no-20-1-2 = never-20-1-2
+
+-- no call sign is given and "Payloads aren't read here": of no mark at all is the header refused with 23, 24, 7 or 8
+pub no-23-24-7-8 : (edition : Edition) (m : Mark) (why : Refusal) → markRead edition m .answer ≡ NotAccepted why → List·Memᴰ (why .number) (23 ∷ 24 ∷ 7 ∷ 8 ∷ []) → ⊥
+no-23-24-7-8 = never-23-24-7-8
+
+-- so the refusals of a report are 3, 21, 4, 5 and 6
+pub only-3-21-4-5-6 : (edition : Edition) (recording : List ℕ) → AreBits recording → (m : Mark) → List·Memᴰ m (marksOf recording) → (why : Refusal)
+    → markRead edition m .answer ≡ NotAccepted why → List·Memᴰ (why .number) (3 ∷ 21 ∷ 4 ∷ 5 ∷ 6 ∷ [])
+only-3-21-4-5-6 = refused-3-21-4-5-6

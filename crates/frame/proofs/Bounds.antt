@@ -23,13 +23,13 @@ use Rattle.frame.proofs.Rules.{answer-then-rules}
 
 module _ (f : Frame) (h : Header) (k : ℕ) (e : frameOf f ≡ Accepted h k) where
   pub frame-source : h .«fields» .«src_id» ≤ lastSourceOf (f .head .rules .edition)
-  frame-source = answer-then-rules f h k e .known-source
+  frame-source = answer-then-rules f h k e .head .known-source
 
   -- three flips in each of fourteen words
   pub frame-flips : k ≤ mostFlips
   frame-flips =
       let so = answer-then-rules f h k e in
-      rw (so .counted) (sum-le radius wordCount (λ j. flipCount (getD (patternsOf (f .head)) j 0)) (λ j below. patterns-few (arrived (f .head)) j))
+      rw (so .head .counted) (sum-le radius wordCount (λ j. flipCount (getD (patternsOf (f .head)) j 0)) (λ j below. patterns-few (arrived (f .head)) j))
 
 -- the number of a refusal; 0 where there is none
 abbrev pub numberIn : Answer → ℕ

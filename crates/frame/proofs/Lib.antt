@@ -1,5 +1,4 @@
 pub mod Payloads
 pub mod Rules
 pub mod Bounds
-pub mod Damage
 pub mod Writing

@@ -1,7 +1,6 @@
 -- Rows 7 and 8 of the paper's table, and the frame's answer from the header's.
 -- Assumes nothing.
 use mathlib.Core.Path.{_≡_, refl, sym, ap₂, _∙_}
-use mathlib.Core.Bool.{Bool}
 use mathlib.Core.List.{List, [], _∷_}
 use Prim.Native.Nat.{ℕ}
 use lib.ListN.{length, replicate}
@@ -12,7 +11,7 @@ use Rattle.base.specs.Checks.{first, refusal}
 use Rattle.base.proofs.First.{never-both, NoneApplies, none-split, first-passes}
 use Rattle.base.proofs.Tests.{not-differs}
 use Rattle.crc.specs.Crc.{crc13Of}
-use Rattle.sign.specs.Calls.{Call, callOf, looksAt}
+use Rattle.sign.specs.Calls.{Call}
 use Rattle.header.specs.declared.Header.{Header}
 use Rattle.header.specs.declared.Read.{Read}
 use Rattle.header.specs.declared.Rules.{Rules}
@@ -23,7 +22,7 @@ use Rattle.header.specs.Reading.{signalWith, signalChecks, repairedAnswer, read
 use Rattle.header.specs.Patterns.{beside, patternsOf, headerRead}
 use Rattle.header.proofs.Beside.{beside-refused, read-answer, read-patterns}
 use Rattle.header.proofs.GoesOn.{no-row, never-accepted, ReadAs, read-as, header-refused, header-leaves}
-use Rattle.frame.specs.Frames.{Frame, signedFrame, frameWith, repairedHeader, crc13Differs, payloadChecks, frameChecks, frameOf, frameRead}
+use Rattle.frame.specs.Frames.{Frame, frameWith, repairedHeader, crc13Differs, payloadChecks, frameChecks, frameOf, frameRead}
 
 module _ (h : Header) (flips : ℕ) (payload : List ℕ) where
   abbrev judged : Answer
@@ -100,8 +99,3 @@ module _ (rules : Rules) (call : Call) (air payload : List ℕ) (read : Read) (i
       made
       ∙ ap₂ beside (read-patterns (signalWith rules call air) read is h k e)
       (so ∙ sym (left-to-payload (frameWith rules call air payload) h k (read-as (signalWith rules call air) h k (sym (read-answer (signalWith rules call air) read is) ∙ e))))
-
--- call sign bits, looked at where the edition says so
-pub as-looked-at : (rules : Rules) (looked : Bool) (call air payload : List ℕ) (r : Read) → looked ≡ looksAt (rules .edition) → r ≡ frameRead (frameWith rules (callOf looked call) air payload)
-    → r ≡ frameRead (signedFrame rules call air payload)
-as-looked-at rules looked call air payload r is e = rw is at e

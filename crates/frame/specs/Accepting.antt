@@ -3,40 +3,16 @@
 -- Assumes nothing.
 use mathlib.Core.Path.{_≡_}
 use mathlib.Core.List.{List}
-use Prim.Native.Nat.{ℕ, _≤_}
+use Prim.Native.Nat.{ℕ}
 use lib.ListN.{length}
-use Rattle.base.specs.Lists.{AreBits}
 use Rattle.crc.specs.Crc.{crc13Of}
-use Rattle.crc.specs.Crc5.{crc5Of}
-use Rattle.air.specs.Air.{airBits, wordsOf}
-use Rattle.air.specs.WordRepairs.{flipTotal}
-use Rattle.air.specs.Closeness.{AllClose, differences}
-use Rattle.air.specs.Flips.{mostFlips}
-use Rattle.sign.specs.Calls.{Agrees}
 use Rattle.header.specs.declared.Header.{Header}
-use Rattle.header.specs.Fields.{lastSourceOf, lastCoding, satelliteOf, headerOf, bitsOfWords}
+use Rattle.header.specs.Accepting.{AcceptsHeader}
 use Rattle.frame.specs.Frames.{Frame}
 
 pub record Accepts (f : Frame) (header : Header) (flips : ℕ) (patterns : List ℕ) : Type 0 where
-  -- "The header arrives as 210 bytes, each 0 or 1."
-  pub long : length (f .head .air) ≡ airBits
-  pub bits : AreBits (f .head .air)
-  -- "A word becomes the valid word that differs in at most three places": fourteen such words
-  pub words : List ℕ
-  pub close : AllClose (wordsOf (f .head .air)) words
-  -- the header is made of their data
-  pub made : header ≡ headerOf (bitsOfWords words)
-  -- the checks of the paper's table, 4 to 8, do not apply
-  pub same-crc5 : crc5Of (f .head .rules .edition) (bitsOfWords words) ≡ header .«crc5»
-  pub known-source : header .«fields» .«src_id» ≤ lastSourceOf (f .head .rules .edition)
-  -- "Where they are looked at", the call sign bits are "48 elements, each 0 or 1, that spell the call sign of the repaired header's satellite"
-  pub same-sign : Agrees (f .head .call) (satelliteOf (header .«fields» .«src_id»))
-  pub known-coding : header .«fields» .«ai_type_src» ≤ lastCoding
+  -- its header is accepted so
+  pub head : AcceptsHeader (f .head) header flips patterns
+  -- and the checks of the paper's table, 7 and 8, do not apply
   pub same-length : length (f .payload) ≡ header .«pdu_length»
   pub same-crc13 : crc13Of (f .payload) ≡ header .«crc13»
-  -- the patterns are the places in which the words differ from those that they became, "the total being their ones"
-  pub patterned : patterns ≡ differences (wordsOf (f .head .air)) words
-  pub counted : flips ≡ flipTotal patterns
-  -- "a limit of at most 42 and the total of flips to be at most the limit"
-  pub known-limit : f .head .rules .limit ≤ mostFlips
-  pub within-limit : flips ≤ f .head .rules .limit

@@ -29,7 +29,7 @@ frame rules air payload = record { head = signal rules air; payload = payload }
 abbrev pub signedFrame : Rules → List ℕ → List ℕ → List ℕ → Frame
 signedFrame rules call air payload = record { head = signed rules call air; payload = payload }
 
--- both: what is looked at of a call sign is named
+-- both: what was given of a call sign is named
 abbrev pub frameWith : Rules → Call → List ℕ → List ℕ → Frame
 frameWith rules call air payload = record { head = signalWith rules call air; payload = payload }
 

@@ -35,20 +35,20 @@ fn judge_payload(header: Header, flips: u32, payload: &[u8]) -> Answer
     Answer::Accepted { header, flips }
 }
 
-// The reader, by a lent copy of the syndrome table: what a caller with many frames copies once. `looked` says whether call sign bits
-// are looked at, and `call` which.
+// The reader, by a lent copy of the syndrome table: what a caller with many frames copies once. `given` says whether call sign bits
+// are given, and `call` which; the edition says whether they are looked at.
 pub fn read_frame_with(
     table: &[u16; TABLE_ROWS],
     rules: Rules,
-    looked: bool,
+    given: bool,
     call: &[u8],
     air: &[u8],
     payload: &[u8],
 ) -> Read
     requires { ⌜ now table ≡ syndromes ⌝ }
-    ensures { λ r. ⌜ r ≡ frameRead (frameWith rules (callOf looked (now (call .entry))) (now (air .entry)) (now (payload .entry))) ⌝ }
+    ensures { λ r. ⌜ r ≡ frameRead (frameWith rules (callOf given (now (call .entry))) (now (air .entry)) (now (payload .entry))) ⌝ }
 {
-    let read = header::read_header_with(table, rules, looked, call, air);
+    let read = header::read_header_with(table, rules, given, call, air);
     let answer = read.answer;
     match answer {
         Answer::Refused(why) => Read {
@@ -83,7 +83,6 @@ pub fn read_frame(rules: Rules, air: &[u8], payload: &[u8]) -> Read
 pub fn read_frame_signed(rules: Rules, call: &[u8], air: &[u8], payload: &[u8]) -> Read
     ensures { λ r. ⌜ r ≡ frameRead (signedFrame rules (now (call .entry)) (now (air .entry)) (now (payload .entry))) ⌝ }
 {
-    let named = rules.edition;
     let table = word::table::whole();
-    read_frame_with(&table, rules, sign::looks_at(named), call, air, payload)
+    read_frame_with(&table, rules, true, call, air, payload)
 }

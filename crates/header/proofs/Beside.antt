@@ -28,6 +28,13 @@ pub beside-answer : (patterns : List ℕ) (a : Answer) → beside patterns a .an
 beside-answer patterns (Accepted h flips) = refl
 beside-answer patterns (Refused why) = refl
 
+-- an answer that stands beside patterns is this one, and of an accepted one the patterns are these
+pub beside-parts : (patterns : List ℕ) (a : Answer) (h : Header) (flips : ℕ) (others : List ℕ)
+    → beside patterns a ≡ record { answer = Accepted h flips; patterns = others } → (a ≡ Accepted h flips) × (patterns ≡ others)
+beside-parts patterns a h flips others e =
+    let answer : a ≡ Accepted h flips = sym (beside-answer patterns a) ∙ ap (λ (r : Read). r .answer) e in
+    (answer, sym (ap (λ (b : Answer). beside patterns b .patterns) answer) ∙ ap (λ (r : Read). r .patterns) e)
+
 -- what a header that was read says
 module _ (s : Signal) (r : Read) (is : r ≡ headerRead s) where
   pub read-answer : r .answer ≡ readHeaderOf s

@@ -7,7 +7,7 @@ use borrow.Author.Tests.{eq-eqb, ne-eqb, lt-ltb, le-ltb}
 use Rattle.base.specs.Checks.{Check, first, refusal}
 use Rattle.crc.specs.Crc5.{crc5Of}
 use Rattle.sign.specs.CallSigns.{signWidth}
-use Rattle.sign.specs.Calls.{Call, otherAt}
+use Rattle.sign.specs.Calls.{Call, lookedAt, otherAt}
 use Rattle.header.specs.declared.Header.{Header}
 use Rattle.header.specs.declared.Rules.{Rules}
 use Rattle.header.specs.declared.Answer.{Answer}
@@ -23,24 +23,24 @@ module _ (rules : Rules) (call : Call) (flips n : ℕ) where
   gives-21 r made above = rw (made, lt-ltb (rules .limit) flips above)
 
   module _ (within : flips ≤ rules .limit) (crc : ℕ) (h : Header) (is : h ≡ headerOf n) (worked : crc ≡ crc5Of (rules .edition) n) where
-    past-21 : given (crc5Differs (rules .edition) n ∷ unknownSource (rules .edition) n ∷ otherCallSign call n ∷ unknownCoding n ∷ []) ≡ judgedOf rules call flips n
+    past-21 : given (crc5Differs (rules .edition) n ∷ unknownSource (rules .edition) n ∷ otherCallSign (lookedAt (rules .edition) call) n ∷ unknownCoding n ∷ []) ≡ judgedOf rules call flips n
     past-21 = rw (le-ltb (rules .limit) flips within)
 
     pub gives-4 : (r : Answer) → r ≡ Refused (refusal 4 crc) → (crc ≡ h .«crc5» → ⊥) → r ≡ judgedOf rules call flips n
     gives-4 r made differs = rw (made, ← past-21, ← is, ← worked, ne-eqb crc (h .«crc5») differs)
 
     module _ (same : crc ≡ h .«crc5») (last : ℕ) (bound : last ≡ lastSourceOf (rules .edition)) where
-      past-4 : given (unknownSource (rules .edition) n ∷ otherCallSign call n ∷ unknownCoding n ∷ []) ≡ judgedOf rules call flips n
+      past-4 : given (unknownSource (rules .edition) n ∷ otherCallSign (lookedAt (rules .edition) call) n ∷ unknownCoding n ∷ []) ≡ judgedOf rules call flips n
       past-4 = rw (← past-21, ← is, ← worked, eq-eqb crc (h .«crc5») same)
 
       pub gives-5 : (r : Answer) → r ≡ Refused (refusal 5 (h .«fields» .«src_id»)) → last < h .«fields» .«src_id» → r ≡ judgedOf rules call flips n
       gives-5 r made above = rw (made, ← past-4, ← is, ← bound, lt-ltb last (h .«fields» .«src_id») above)
 
       module _ (known : h .«fields» .«src_id» ≤ last) where
-        past-5 : given (otherCallSign call n ∷ unknownCoding n ∷ []) ≡ judgedOf rules call flips n
+        past-5 : given (otherCallSign (lookedAt (rules .edition) call) n ∷ unknownCoding n ∷ []) ≡ judgedOf rules call flips n
         past-5 = rw (← past-4, ← is, ← bound, le-ltb last (h .«fields» .«src_id») known)
 
-        module _ (sat at : ℕ) (spoke : sat ≡ satelliteOf (h .«fields» .«src_id»)) (found : at ≡ otherAt call sat) where
+        module _ (sat at : ℕ) (spoke : sat ≡ satelliteOf (h .«fields» .«src_id»)) (found : at ≡ otherAt (lookedAt (rules .edition) call) sat) where
           pub gives-24 : (r : Answer) → r ≡ Refused (refusal 24 (h .«fields» .«src_id»)) → at < signWidth → r ≡ judgedOf rules call flips n
           gives-24 r made differs = rw (made, ← past-5, ← is, ← spoke, ← found, lt-ltb at signWidth differs)
 

@@ -15,3 +15,6 @@ pub mod OtherEdition
 pub mod WrittenAir
 pub mod GoesOn
 pub mod Given
+pub mod Accepted
+pub mod Damage
+pub mod Writing

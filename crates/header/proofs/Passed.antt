@@ -17,7 +17,7 @@ use Rattle.air.specs.Flips.{mostFlips}
 use Rattle.air.proofs.Bits.{are-bits, no-bit-none, no-bit-le}
 use Rattle.air.proofs.Answers.{beyond-le}
 use Rattle.sign.specs.CallSigns.{signWidth}
-use Rattle.sign.specs.Calls.{Call, faultAt, otherAt}
+use Rattle.sign.specs.Calls.{Call, lookedAt, faultAt, otherAt}
 use Rattle.header.specs.declared.Fields.{Fields}
 use Rattle.header.specs.declared.Rules.{Rules}
 use Rattle.header.specs.Fields.{fieldCount, valuesOf, lastSourceOf, lastCoding, satelliteOf, headerOf}
@@ -29,7 +29,7 @@ pub record AirPassed (s : Signal) : Type 0 where
   pub allowed : s .rules .limit ≤ mostFlips
   pub long : length (s .air) ≡ airBits
   pub bits : AreBits (s .air)
-  pub sound-call : faultAt (s .call) ≡ signWidth
+  pub sound-call : faultAt (lookedAt (s .rules .edition) (s .call)) ≡ signWidth
   pub repairable : firstBeyond (arrived s) ≡ wordCount
 
 module _ (s : Signal) where
@@ -40,7 +40,7 @@ module _ (s : Signal) where
         allowed = ltb-false mostFlips (s .rules .limit) (none .0);
         long = long;
         bits = are-bits (s .air) (omega (arith, long, no-bit-le (s .air), ltb-false (firstNoBit (s .air)) airBits (none .1 .1 .0)));
-        sound-call = not-differs (faultAt (s .call)) signWidth (none .1 .1 .1 .0);
+        sound-call = not-differs (faultAt (lookedAt (s .rules .edition) (s .call))) signWidth (none .1 .1 .1 .0);
         repairable = omega (arith, beyond-le (arrived s), ltb-false (firstBeyond (arrived s)) wordCount (none .1 .1 .1 .1 .0));
       }
 
@@ -52,7 +52,7 @@ module _ (s : Signal) where
       (
         le-ltb (firstNoBit (s .air)) airBits (omega (arith, so .long, no-bit-none (s .air) (so .bits))),
         (
-          differs-not (faultAt (s .call)) signWidth (so .sound-call),
+          differs-not (faultAt (lookedAt (s .rules .edition) (s .call))) signWidth (so .sound-call),
           (le-ltb (firstBeyond (arrived s)) wordCount (omega (arith, so .repairable)), tt),
         ),
       ),
@@ -64,7 +64,7 @@ pub record HeaderPassed (rules : Rules) (call : Call) (flips n : ℕ) : Type 0 w
   pub within : flips ≤ rules .limit
   pub same-crc5 : crc5Of (rules .edition) n ≡ headerOf n .«crc5»
   pub known-source : headerOf n .«fields» .«src_id» ≤ lastSourceOf (rules .edition)
-  pub same-sign : signWidth ≤ otherAt call (satelliteOf (headerOf n .«fields» .«src_id»))
+  pub same-sign : signWidth ≤ otherAt (lookedAt (rules .edition) call) (satelliteOf (headerOf n .«fields» .«src_id»))
   pub known-coding : headerOf n .«fields» .«ai_type_src» ≤ lastCoding
 
 module _ (rules : Rules) (call : Call) (flips n : ℕ) where
@@ -73,7 +73,7 @@ module _ (rules : Rules) (call : Call) (flips n : ℕ) where
     within = ltb-false (rules .limit) flips (none .0);
     same-crc5 = not-differs (crc5Of (rules .edition) n) (headerOf n .«crc5») (none .1 .0);
     known-source = ltb-false (lastSourceOf (rules .edition)) (headerOf n .«fields» .«src_id») (none .1 .1 .0);
-    same-sign = ltb-false (otherAt call (satelliteOf (headerOf n .«fields» .«src_id»))) signWidth (none .1 .1 .1 .0);
+    same-sign = ltb-false (otherAt (lookedAt (rules .edition) call) (satelliteOf (headerOf n .«fields» .«src_id»))) signWidth (none .1 .1 .1 .0);
     known-coding = ltb-false lastCoding (headerOf n .«fields» .«ai_type_src») (none .1 .1 .1 .1 .0);
   }
 
@@ -85,7 +85,7 @@ module _ (rules : Rules) (call : Call) (flips n : ℕ) where
       (
         le-ltb (lastSourceOf (rules .edition)) (headerOf n .«fields» .«src_id») (so .known-source),
         (
-          le-ltb (otherAt call (satelliteOf (headerOf n .«fields» .«src_id»))) signWidth (so .same-sign),
+          le-ltb (otherAt (lookedAt (rules .edition) call) (satelliteOf (headerOf n .«fields» .«src_id»))) signWidth (so .same-sign),
           (le-ltb lastCoding (headerOf n .«fields» .«ai_type_src») (so .known-coding), tt),
         ),
       ),

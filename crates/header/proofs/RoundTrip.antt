@@ -19,7 +19,7 @@ use Rattle.air.specs.WordRepairs.{flipsIn}
 use Rattle.air.proofs.Places.{air-length, words-lt, words-back, air-bits}
 use Rattle.air.proofs.Restored.{restored-none, restored-words, restored-flips, close-self, distances-self}
 use Rattle.sign.specs.CallSigns.{signWidth}
-use Rattle.sign.specs.Calls.{Call, faultAt, Agrees}
+use Rattle.sign.specs.Calls.{Call, lookedAt, faultAt, Agrees}
 use Rattle.sign.proofs.Agreeing.{agrees-fault, agrees-other}
 use Rattle.header.specs.declared.Fields.{Fields}
 use Rattle.header.specs.declared.Header.{Header}
@@ -39,7 +39,7 @@ use Rattle.base.proofs.First.{none-both}
 
 -- a header within three places of valid words with the bits n is read as these bits, with the places in which it differs
 module _ (s : Signal) (valid : List ℕ) (long : length (s .air) ≡ airBits) (bits : AreBits (s .air)) (close : AllClose (arrived s) valid)
-    (allowed : s .rules .limit ≤ mostFlips) (sound : faultAt (s .call) ≡ signWidth) where
+    (allowed : s .rules .limit ≤ mostFlips) (sound : faultAt (lookedAt (s .rules .edition) (s .call)) ≡ signWidth) where
   pub restored-passed : AirPassed s
   restored-passed = record {
     allowed = allowed;
@@ -101,18 +101,18 @@ module _ (edition : Edition) (f : Fields) (payload : List ℕ) (ok : Writable ed
   written-bits = coded-bits (bitsFor edition f payload) written-lt
 
   -- and no check stands against them
-  written-passed : (limit : ℕ) (call : Call) (flips : ℕ) → flips ≤ limit → Agrees call (satelliteOf (f .«src_id»)) → HeaderPassed (record { edition = edition; limit = limit }) call flips (bitsFor edition f payload)
+  written-passed : (limit : ℕ) (call : Call) (flips : ℕ) → flips ≤ limit → Agrees (lookedAt edition call) (satelliteOf (f .«src_id»)) → HeaderPassed (record { edition = edition; limit = limit }) call flips (bitsFor edition f payload)
   written-passed limit call flips within agrees = record {
     within = within;
     same-crc5 = written-crc5 ∙ ap (λ (h : Header). h .«crc5») (sym written-header);
     known-source = rw written-header (in-range edition (valuesOf f) (ok .ranges) 0 (lit< tt));
-    same-sign = rw written-header (omega (arith, agrees-other call (satelliteOf (f .«src_id»)) agrees));
+    same-sign = rw written-header (omega (arith, agrees-other (lookedAt edition call) (satelliteOf (f .«src_id»)) agrees));
     known-coding = rw written-header (in-range edition (valuesOf f) (ok .ranges) 5 (lit< tt));
   }
 
 -- THE HEADER IS RESTORED, read and written under one edition
 module _ (rules : Rules) (f : Fields) (payload : List ℕ) (ok : Writable (rules .edition) f payload) (allowed : rules .limit ≤ mostFlips)
-    (call : Call) (agrees : Agrees call (satelliteOf (f .«src_id»))) where
+    (call : Call) (agrees : Agrees (lookedAt (rules .edition) call) (satelliteOf (f .«src_id»))) where
   abbrev coded : List ℕ
   coded = codedOf (bitsFor (rules .edition) f payload)
 
@@ -120,7 +120,7 @@ module _ (rules : Rules) (f : Fields) (payload : List ℕ) (ok : Writable (rules
       → distances (wordsOf air) (codedOf (bitsFor (rules .edition) f payload)) ≤ rules .limit
       → ReadAs (signalWith rules call air) (headerFor (rules .edition) f payload) (distances (wordsOf air) (codedOf (bitsFor (rules .edition) f payload)))
   header-restored air long bits close within =
-      (rw (written-bits (rules .edition) f payload ok, written-header (rules .edition) f payload ok) at (restored (signalWith rules call air) coded long bits close allowed (agrees-fault call (satelliteOf (f .«src_id»)) agrees)))
+      (rw (written-bits (rules .edition) f payload ok, written-header (rules .edition) f payload ok) at (restored (signalWith rules call air) coded long bits close allowed (agrees-fault (lookedAt (rules .edition) call) (satelliteOf (f .«src_id»)) agrees)))
       (written-passed (rules .edition) f payload ok (rules .limit) call (distances (wordsOf air) coded) within agrees)
 
   -- with nothing flipped

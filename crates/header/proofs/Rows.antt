@@ -2,7 +2,6 @@
 -- the rows on the repaired header.
 -- Assumes nothing.
 use mathlib.Core.Path.{_≡_, sym, ap₂, _∙_}
-use mathlib.Core.Bool.{Bool}
 use mathlib.Core.List.{List, [], _∷_}
 use Prim.Native.Nat.{ℕ, _≤_, _<_}
 use native.Mathlib.Omega.{arith}
@@ -18,13 +17,13 @@ use Rattle.air.specs.Flips.{mostFlips}
 use Rattle.air.proofs.Bits.{no-bit-none, are-bits, no-bit-le}
 use Rattle.air.proofs.Answers.{AllRepaired, told-beyond, told-all, repaired-words}
 use Rattle.sign.specs.CallSigns.{signWidth}
-use Rattle.sign.specs.Calls.{Call, callOf, looksAt, faultAt}
+use Rattle.sign.specs.Calls.{Call, lookedAt, faultAt}
 use Rattle.header.specs.declared.Read.{Read}
 use Rattle.header.specs.declared.Rules.{Rules}
 use Rattle.header.specs.declared.Answer.{Answer}
 use Rattle.header.specs.declared.Answer.the-variants.{Accepted, Refused}
 use Rattle.header.specs.Fields.{headerOf, bitsOfWords}
-use Rattle.header.specs.Reading.{Signal, signalWith, signed, arrived, repairedBits, not210Long, noBit, noCallSign, beyondRepair, headerChecks, judgedOf, repairedAnswer, readHeaderOf}
+use Rattle.header.specs.Reading.{Signal, signalWith, arrived, repairedBits, not210Long, noBit, noCallSign, beyondRepair, headerChecks, judgedOf, repairedAnswer, readHeaderOf}
 use Rattle.header.specs.Patterns.{beside, headerRead}
 
 module _ (rules : Rules) (call : Call) (air : List ℕ) where
@@ -69,21 +68,17 @@ module _ (rules : Rules) (call : Call) (air : List ℕ) where
         past-2 : given (noCallSign s ∷ beyondRepair s ∷ fromHeader) ≡ readHeaderOf (signalWith rules call air)
         past-2 = rw (← past-1, le-ltb (firstNoBit air) airBits (omega (arith, long, no-bit-none air bits)))
 
-        pub gives-23 : (r : Read) (at : ℕ) → r ≡ beside (replicate wordCount 0) (Refused (refusal 23 at)) → at ≡ faultAt call → (at ≡ signWidth → ⊥) → r ≡ headerRead (signalWith rules call air)
+        pub gives-23 : (r : Read) (at : ℕ) → r ≡ beside (replicate wordCount 0) (Refused (refusal 23 at)) → at ≡ faultAt (lookedAt (rules .edition) call) → (at ≡ signWidth → ⊥) → r ≡ headerRead (signalWith rules call air)
         gives-23 r at made is differs = alone r 23 at made (rw (← past-2, ← is, ne-eqb at signWidth differs))
 
-        module _ (sound : faultAt call ≡ signWidth) (m : RepairedWords) (words : List ℕ) (is : m ≡ repairWordsOf words) (gathered : words ≡ wordsOf air) where
+        module _ (sound : faultAt (lookedAt (rules .edition) call) ≡ signWidth) (m : RepairedWords) (words : List ℕ) (is : m ≡ repairWordsOf words) (gathered : words ≡ wordsOf air) where
           past-23 : given (beyondRepair s ∷ fromHeader) ≡ readHeaderOf (signalWith rules call air)
-          past-23 = rw (← past-2, eq-eqb (faultAt call) signWidth sound)
+          past-23 = rw (← past-2, eq-eqb (faultAt (lookedAt (rules .edition) call)) signWidth sound)
 
           pub gives-3 : (r : Read) → r ≡ beside (replicate wordCount 0) (Refused (refusal 3 (m .beyond))) → m .beyond < wordCount → r ≡ headerRead (signalWith rules call air)
           gives-3 r made h =
               let lowest : m .beyond ≡ firstBeyond (arrived s) = rw gathered at (told-beyond words m is) in
               alone r 3 (m .beyond) made (rw (← past-23, ← lowest, lt-ltb (m .beyond) wordCount h))
-
-          -- the words that are left for the rows that follow
-          pub repaired : wordCount ≤ m .beyond → (k : ℕ) → getD (m .words) k 0 < wordLimit
-          repaired h k = rw (told-all words m is h .all) (repaired-words words k)
 
           pub leaves : wordCount ≤ m .beyond → (judged : Answer) (r : Read) → judged ≡ judgedOf rules call (m .flips) (bitsOfWords (m .words))
               → r ≡ beside (m .patterns) judged → r ≡ headerRead (signalWith rules call air)
@@ -93,10 +88,9 @@ module _ (rules : Rules) (call : Call) (air : List ℕ) where
               let same : judged ≡ readHeaderOf (signalWith rules call air) = rw (← past-23, e, so .all, so .counted, le-ltb (firstBeyond (arrived s)) wordCount (omega (arith, so .none-beyond))) in
               made ∙ ap₂ beside (so .patterned) same
 
--- call sign bits, looked at where the edition says so
-pub as-looked-at : (rules : Rules) (looked : Bool) (call air : List ℕ) (r : Read) → looked ≡ looksAt (rules .edition) → r ≡ headerRead (signalWith rules (callOf looked call) air)
-    → r ≡ headerRead (signed rules call air)
-as-looked-at rules looked call air r is e = rw is at e
+-- the words that are left for the rows that follow
+pub repaired : (m : RepairedWords) (words : List ℕ) → m ≡ repairWordsOf words → wordCount ≤ m .beyond → (k : ℕ) → getD (m .words) k 0 < wordLimit
+repaired m words is h k = rw (told-all words m is h .all) (repaired-words words k)
 
 pub no-fault : (call : Call) (at : ℕ) → at ≡ faultAt call → at ≡ signWidth → faultAt call ≡ signWidth
 no-fault call at is long = sym is ∙ long

@@ -12,13 +12,13 @@ use Rattle.air.specs.Air.{wordCount, airBits, wordsOf, firstNoBit}
 use Rattle.air.specs.WordRepairs.{firstBeyond, repairedOf, flipsIn}
 use Rattle.air.specs.Flips.{mostFlips}
 use Rattle.sign.specs.CallSigns.{signWidth}
-use Rattle.sign.specs.Calls.{Call, absent, lookedAt, faultAt, otherAt}
+use Rattle.sign.specs.Calls.{Call, absent, given, lookedAt, faultAt, otherAt}
 use Rattle.header.specs.declared.Rules.{Rules}
 use Rattle.header.specs.declared.Answer.{Answer}
 use Rattle.header.specs.declared.Answer.the-variants.{Accepted, Refused}
 use Rattle.header.specs.Fields.{lastSourceOf, lastCoding, satelliteOf, headerOf, bitsOfWords}
 
--- what a header is read from: the air bits, how they are to be read, and what is looked at of a call sign
+-- what a header is read from: the air bits, how they are to be read, and what was given of a call sign
 pub record Signal : Type 0 where
   pub rules : Rules
   pub call : Call
@@ -32,7 +32,7 @@ abbrev pub signal : Rules → List ℕ → Signal
 signal rules air = signalWith rules absent air
 
 abbrev pub signed : Rules → List ℕ → List ℕ → Signal
-signed rules call air = signalWith rules (lookedAt (rules .edition) call) air
+signed rules call air = signalWith rules (given call) air
 
 -- the words that arrived, and the bits of the repaired header
 abbrev pub arrived : Signal → List ℕ
@@ -56,7 +56,8 @@ noBit s = check (ltb (firstNoBit (s .air)) airBits) (Refused (refusal 2 (firstNo
 
 -- 23, "not 48 elements or one above 1": "the length, or the first bad index"
 abbrev pub noCallSign : Signal → Check Answer
-noCallSign s = check (not (eqb (faultAt (s .call)) signWidth)) (Refused (refusal 23 (faultAt (s .call))))
+noCallSign s =
+    check (not (eqb (faultAt (lookedAt (s .rules .edition) (s .call))) signWidth)) (Refused (refusal 23 (faultAt (lookedAt (s .rules .edition) (s .call)))))
 
 -- 3, "a word is beyond repair": lowest word
 abbrev pub beyondRepair : Signal → Check Answer
@@ -78,7 +79,7 @@ crc5Differs edition n = check (not (eqb (crc5Of edition n) (headerOf n .«crc5»
 abbrev pub unknownSource : Edition → ℕ → Check Answer
 unknownSource edition n = check (ltb (lastSourceOf edition) (headerOf n .«fields» .«src_id»)) (Refused (refusal 5 (headerOf n .«fields» .«src_id»)))
 
--- 24, "disagreement": SrcId
+-- 24, "disagreement" of what is looked at: SrcId
 abbrev pub otherCallSign : Call → ℕ → Check Answer
 otherCallSign call n =
     check (ltb (otherAt call (satelliteOf (headerOf n .«fields» .«src_id»))) signWidth) (Refused (refusal 24 (headerOf n .«fields» .«src_id»)))
@@ -89,7 +90,12 @@ unknownCoding n = check (ltb lastCoding (headerOf n .«fields» .«ai_type_src»
 
 abbrev pub headerChecks : Rules → Call → ℕ → ℕ → List (Check Answer)
 headerChecks rules call flips n =
-    flipsAboveLimit rules flips ∷ crc5Differs (rules .edition) n ∷ unknownSource (rules .edition) n ∷ otherCallSign call n ∷ unknownCoding n ∷ []
+    flipsAboveLimit rules flips
+    ∷ crc5Differs (rules .edition) n
+    ∷ unknownSource (rules .edition) n
+    ∷ otherCallSign (lookedAt (rules .edition) call) n
+    ∷ unknownCoding n
+    ∷ []
 
 -- what is answered of it
 abbrev pub judgedOf : Rules → Call → ℕ → ℕ → Answer

@@ -29,15 +29,13 @@ ghost use mathlib.Core.Path.{_≡_};
 ghost use mathlib.Core.List.{map};
 ghost use Prim.Native.Nat.{ℕ, _+_, _*_, _<_, _≤_, _^_};
 ghost use lib.ListN.{length, getD, replicate};
-ghost use Rattle.base.specs.Lists.{AreBits};
 ghost use Rattle.base.specs.Checks.{refusal};
 ghost use Rattle.base.specs.Parts.{joined};
 ghost use Rattle.word.specs.Words.{wordLimit, dataOf};
 ghost use Rattle.word.specs.Repairs.{syndromes};
 ghost use Rattle.air.specs.Air.{wordCount, airBits};
 ghost use Rattle.air.specs.Flips.{mostFlips};
-ghost use Rattle.sign.specs.CallSigns.{signWidth};
-ghost use Rattle.sign.specs.Calls.{callOf, faultAt};
+ghost use Rattle.sign.specs.Calls.{callOf};
 ghost use Rattle.header.specs.Fields.{headerOf, bitsOfWords};
 ghost use Rattle.header.specs.Reading.{signalWith, signal, signed, judgedOf};
 ghost use Rattle.header.specs.Patterns.{beside, headerRead};
@@ -103,11 +101,11 @@ fn not_judged(number: u8, place: usize) -> Answer
     Answer::Refused(Refusal { number, place })
 }
 
-// Checks 21, 4, 5, 24 and 6 on the bits of a repaired header; `looked` says whether `call` is looked at.
-fn judge(rules: Rules, looked: bool, call: &[u8], flips: u32, hi: u64, lo: u64) -> Answer
+// Checks 21, 4, 5, 24 and 6 on the bits of a repaired header; `given` says whether call sign bits are given, and `call` which.
+fn judge(rules: Rules, given: bool, call: &[u8], flips: u32, hi: u64, lo: u64) -> Answer
     requires { ⌜ hi < 2 ^ hiWidth ⌝ }
     requires { ⌜ lo < 2 ^ loWidth ⌝ }
-    ensures { λ r. ⌜ r ≡ judgedOf rules (callOf looked (now (call .entry))) flips (headerBits hi lo) ⌝ }
+    ensures { λ r. ⌜ r ≡ judgedOf rules (callOf given (now (call .entry))) flips (headerBits hi lo) ⌝ }
 {
     if rules.limit < flips {
         return not_judged(FLIPS_ABOVE_LIMIT, flips as usize);
@@ -123,7 +121,7 @@ fn judge(rules: Rules, looked: bool, call: &[u8], flips: u32, hi: u64, lo: u64) 
         return not_judged(UNKNOWN_SOURCE, src_id as usize);
     }
     let sat = satellite(src_id);
-    if sign::other_at(looked, call, sat) < SIGN_BITS {
+    if sign::other_at(edition, given, call, sat) < SIGN_BITS {
         return not_judged(OTHER_CALL_SIGN, src_id as usize);
     }
     let ai_type_src = header.fields.ai_type_src;
@@ -136,17 +134,17 @@ fn judge(rules: Rules, looked: bool, call: &[u8], flips: u32, hi: u64, lo: u64) 
 // The same on fourteen repaired words.
 fn judge_words(
     rules: Rules,
-    looked: bool,
+    given: bool,
     call: &[u8],
     flips: u32,
     words: [u16; WORD_COUNT],
 ) -> Answer
     requires { ⌜ ((k : ℕ) → getD words k 0 < wordLimit) ⌝ }
-    ensures { λ r. ⌜ r ≡ judgedOf rules (callOf looked (now (call .entry))) flips (bitsOfWords words) ⌝ }
+    ensures { λ r. ⌜ r ≡ judgedOf rules (callOf given (now (call .entry))) flips (bitsOfWords words) ⌝ }
 {
     let hi = collect(&words[0..HI_WORDS]);
     let lo = collect(&words[HI_WORDS..WORD_COUNT]);
-    judge(rules, looked, call, flips, hi, lo)
+    judge(rules, given, call, flips, hi, lo)
 }
 
 // A refusal, with no patterns.
@@ -159,15 +157,22 @@ fn refused(number: u8, place: usize) -> Read
     }
 }
 
-// Checks 3, 21, 4, 5, 24 and 6 on 210 air bits.
-fn read_bits(table: &[u16; TABLE_ROWS], rules: Rules, looked: bool, call: &[u8], air: &[u8]) -> Read
+// Checks 2, 23, 3, 21, 4, 5, 24 and 6 on 210 bytes.
+fn read_bits(table: &[u16; TABLE_ROWS], rules: Rules, given: bool, call: &[u8], air: &[u8]) -> Read
     requires { ⌜ now table ≡ syndromes ⌝ }
     requires { ⌜ rules .limit ≤ mostFlips ⌝ }
     requires { ⌜ length (now air) ≡ airBits ⌝ }
-    requires { ⌜ AreBits (now air) ⌝ }
-    requires { ⌜ faultAt (callOf looked (now call)) ≡ signWidth ⌝ }
-    ensures { λ r. ⌜ r ≡ headerRead (signalWith rules (callOf looked (now (call .entry))) (now (air .entry))) ⌝ }
+    ensures { λ r. ⌜ r ≡ headerRead (signalWith rules (callOf given (now (call .entry))) (now (air .entry))) ⌝ }
 {
+    let at = air::first_no_bit(air);
+    if at < AIR_BITS {
+        return refused(NO_BIT, at);
+    }
+    let named = rules.edition;
+    let fault = sign::fault_at(named, given, call);
+    if fault != SIGN_BITS {
+        return refused(NO_CALL_SIGN, fault);
+    }
     let repaired = air::repair_words(table, air::words(air));
     let beyond = repaired.beyond;
     if beyond < WORD_COUNT {
@@ -176,20 +181,20 @@ fn read_bits(table: &[u16; TABLE_ROWS], rules: Rules, looked: bool, call: &[u8],
     let words = repaired.words;
     let flips = repaired.flips;
     let patterns = repaired.patterns;
-    with_patterns(judge_words(rules, looked, call, flips, words), patterns)
+    with_patterns(judge_words(rules, given, call, flips, words), patterns)
 }
 
-// The reader of a header alone, by a lent copy of the syndrome table: what a caller with many headers copies once. `looked` says
-// whether call sign bits are looked at, and `call` which.
+// The reader of a header alone, by a lent copy of the syndrome table: what a caller with many headers copies once. `given` says
+// whether call sign bits are given, and `call` which; the edition says whether they are looked at.
 pub fn read_header_with(
     table: &[u16; TABLE_ROWS],
     rules: Rules,
-    looked: bool,
+    given: bool,
     call: &[u8],
     air: &[u8],
 ) -> Read
     requires { ⌜ now table ≡ syndromes ⌝ }
-    ensures { λ r. ⌜ r ≡ headerRead (signalWith rules (callOf looked (now (call .entry))) (now (air .entry))) ⌝ }
+    ensures { λ r. ⌜ r ≡ headerRead (signalWith rules (callOf given (now (call .entry))) (now (air .entry))) ⌝ }
 {
     let limit = rules.limit;
     if MOST_FLIPS < limit {
@@ -199,15 +204,7 @@ pub fn read_header_with(
     if n != AIR_BITS {
         return refused(NOT_210_LONG, n);
     }
-    let at = air::first_no_bit(air);
-    if at < AIR_BITS {
-        return refused(NO_BIT, at);
-    }
-    let fault = sign::fault_at(looked, call);
-    if fault != SIGN_BITS {
-        return refused(NO_CALL_SIGN, fault);
-    }
-    read_bits(table, rules, looked, call, air)
+    read_bits(table, rules, given, call, air)
 }
 
 // The same with no call sign bits.
@@ -231,7 +228,6 @@ pub fn read_header(rules: Rules, air: &[u8]) -> Read
 pub fn read_header_signed(rules: Rules, call: &[u8], air: &[u8]) -> Read
     ensures { λ r. ⌜ r ≡ headerRead (signed rules (now (call .entry)) (now (air .entry))) ⌝ }
 {
-    let named = rules.edition;
     let table = word::table::whole();
-    read_header_with(&table, rules, sign::looks_at(named), call, air)
+    read_header_with(&table, rules, true, call, air)
 }

@@ -3,7 +3,7 @@
 use mathlib.Core.Path.{_≡_, refl, sym, ap, _∙_}
 use mathlib.Core.Bool.{Bool, true, false, cond}
 use mathlib.Core.List.{List, [], _∷_, _++_, append-assoc, append-nil, flatten}
-use Prim.Native.Nat.{ℕ}
+use Prim.Native.Nat.{ℕ, _<_}
 use native.Mathlib.Omega.{arith}
 use borrow.Author.Tests.{lt-ltb}
 use lib.Dec.{lit<}
@@ -20,10 +20,15 @@ use Rattle.record.proofs.Cuts.{no-length, whole-at, long-at}
 use Rattle.record.proofs.Stays.{long-stays, whole-stays, air-stays, payload-stays, rest-stays}
 use Rattle.listing.proofs.Scans.{Stopped, full, long, short, scan-stops, scan-takes, by-records, scan-stopped}
 
--- a listing that is over cuts, whatever follows
-pub over-cuts : (tally : Tally) (l f : List ℕ) → Stopped tally l true → anyLeft (l ++ f) ≡ true
-over-cuts tally l f (full {n} e g) = lt-ltb 0 (length (l ++ f)) (omega (arith, length-append l f, whole-at l n e .there))
-over-cuts tally l f (long e) = lt-ltb 0 (length (l ++ f)) (omega (arith, length-append l f, long-at l e .two))
+-- a listing that is over leaves something, and so cuts, whatever follows
+over-leaves : (tally : Tally) (l : List ℕ) → Stopped tally l true → 0 < length l
+over-leaves tally l (full {n} e g) = omega (arith, whole-at l n e .there)
+over-leaves tally l (long e) = omega (arith, long-at l e .two)
+
+pub over-cuts : (tally : Tally) (l f : List ℕ) → Stopped tally l true → anyLeft l ≡ anyLeft (l ++ f)
+over-cuts tally l f so =
+    let some : 0 < length l = over-leaves tally l so in
+    lt-ltb 0 (length l) some ∙ sym (lt-ltb 0 (length (l ++ f)) (omega (arith, length-append l f)))
 
 module _ (rules : Rules) where
   -- what becomes of some bytes and of those that follow, from what became of the former

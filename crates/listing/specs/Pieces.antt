@@ -1,6 +1,6 @@
 -- What is written for an input that comes in pieces: what is left of a piece is kept for the next.
 -- Assumes nothing.
-use mathlib.Core.Bool.{true, cond}
+use mathlib.Core.Bool.{cond}
 use mathlib.Core.List.{List, [], _∷_, _++_}
 use Prim.Native.Nat.{ℕ}
 use Rattle.header.specs.declared.Rules.{Rules}
@@ -11,7 +11,7 @@ use Rattle.listing.specs.Listing.{Scan, scanOf, anyLeft}
 
 -- the lines of a piece; then "`cut`, then the last line .. and stops", or the pieces that follow
 abbrev pub goesOn : Scan → (Tally → List ℕ → List ℕ) → List ℕ
-goesOn s next = s .text ++ cond (s .over) (closingOf (s .tally) true) (next (s .tally) (s .rest))
+goesOn s next = s .text ++ cond (s .over) (closingOf (s .tally) (anyLeft (s .rest))) (next (s .tally) (s .rest))
 
 module _ (rules : Rules) where
   abbrev pub fedOf : Tally → List ℕ → List (List ℕ) → List ℕ

@@ -3,7 +3,8 @@
 use mathlib.Core.Path.{_≡_, refl, sym, ap, _∙_}
 use mathlib.Core.Bool.{Bool, true, false, cond, true≢false}
 use mathlib.Core.List.{List, [], _∷_, _++_}
-use Prim.Native.Nat.{ℕ, suc, _+_, _-_, _<_, _≤_}
+use Prim.Native.Nat.{ℕ, zero, suc, _+_, _-_, _<_, _≤_}
+use native.Mathlib.Nat.{le-refl}
 use native.Mathlib.Omega.{arith}
 use lib.Dec.{ltb}
 use lib.ListN.{length, drop, length-append, length-drop}
@@ -126,3 +127,25 @@ pub got-all : (s : State) (piece : List ℕ) → length (s .bits) ≡ windowBits
 got-all s piece long room at ms (last e) = sym (finds-none s piece at long (stepOf s piece at) refl room e)
 got-all s piece long room at ms (more {ms = ns} e g) =
     ap (λ (qs : List Mark). stepOf s piece at .mark ∷ qs) (got-all s piece long room (stepOf s piece at .next) ns g) ∙ sym (finds s piece at long (stepOf s piece at) refl e .2)
+
+-- SOMETHING IS GOT from every position: each mark that is found ends past the last, inside the piece
+pub record Asked (s : State) (piece : List ℕ) (at : ℕ) : Type 0 where
+  pub marks : List Mark
+  pub got : Got s piece at marks
+
+module _ (s : State) (piece : List ℕ) (long : length (s .bits) ≡ windowBits) where
+  by-found : (b : Bool) (at : ℕ) → stepOf s piece at .found ≡ b → (b ≡ true → Asked s piece (stepOf s piece at .next)) → Asked s piece at
+  by-found true at e further = record { marks = stepOf s piece at .mark ∷ further refl .marks; got = more e (further refl .got) }
+  by-found false at e further = record { marks = []; got = last e }
+
+  -- after at most n more marks
+  asks : (n at : ℕ) → length piece - at ≤ n → Asked s piece at
+  asks zero at few =
+      by-found (stepOf s piece at .found) at refl
+      (λ f. absurd (omega (arith, few, finds s piece at long (stepOf s piece at) refl f .0, finds s piece at long (stepOf s piece at) refl f .1)))
+  asks (suc n) at few =
+      by-found (stepOf s piece at .found) at refl
+      (λ f. asks n (stepOf s piece at .next) (omega (arith, few, finds s piece at long (stepOf s piece at) refl f .0, finds s piece at long (stepOf s piece at) refl f .1)))
+
+  pub something-got : (at : ℕ) → Asked s piece at
+  something-got at = asks (length piece - at) at (le-refl (length piece - at))

@@ -13,19 +13,20 @@ use Rattle.base.proofs.Tests.{lt-or-ge}
 use Rattle.base.specs.declared.Refusal.{Refusal}
 use Rattle.marks.specs.declared.Mark.{Mark}
 use Rattle.marks.specs.declared.State.{State}
+use Rattle.marks.specs.declared.Verdict.{Verdict}
 use Rattle.marks.specs.declared.Verdict.the-variants.{Accepted, Refused}
 use Rattle.marks.specs.Marked.{windowBits, marksOf}
 use Rattle.marks.specs.Pieces.{longestRecording, freshState, movedOn, verdictOf, takenOf, marksAt, allMarks, allAfter, allBits}
 use Rattle.marks.specs.Reports.{Run, over, passed, taken}
 use Rattle.marks.proofs.Verdicts.{room, bits-accepted, total-after}
-use Rattle.marks.proofs.Asked.{got-all}
+use Rattle.marks.proofs.Asked.{got-all, something-got}
 use Rattle.marks.proofs.Cuts.{however-cut}
 
-stays-long : (s : State) (piece : List ℕ) → length (s .bits) ≡ windowBits → length (movedOn s piece .bits) ≡ windowBits
+pub stays-long : (s : State) (piece : List ℕ) → length (s .bits) ≡ windowBits → length (movedOn s piece .bits) ≡ windowBits
 unfolding movedOn
 stays-long s piece long = simp (length-drop, length-append) (omega arith)
 
-fresh-long : length (freshState .bits) ≡ windowBits
+pub fresh-long : length (freshState .bits) ≡ windowBits
 unfolding freshState
 fresh-long = length-replicate {A = ℕ} windowBits 0
 
@@ -43,6 +44,25 @@ run-all s (piece ∷ pieces) ms long (taken {gs = gs} {ms = ns} e got run) =
 -- "However the recording is cut, the reports are those of the whole."
 pub however-run : (pieces : List (List ℕ)) (ms : List Mark) → Run freshState pieces ms → ms ≡ marksOf (allBits freshState pieces)
 however-run pieces ms run = run-all freshState pieces ms fresh-long run ∙ however-cut pieces
+
+-- A RUN EXISTS for every list of pieces
+pub record Ran (s : State) (pieces : List (List ℕ)) : Type 0 where
+  pub marks : List Mark
+  pub run : Run s pieces marks
+
+runs : (s : State) (pieces : List (List ℕ)) → length (s .bits) ≡ windowBits → Ran s pieces
+runs s [] long = record { marks = []; run = over }
+runs s (piece ∷ pieces) long =
+    by (runs s pieces long) (runs (movedOn s piece) pieces (stays-long s piece long)) (verdictOf (s .total) piece) refl
+  where
+    by : Ran s pieces → Ran (movedOn s piece) pieces → (v : Verdict) → verdictOf (s .total) piece ≡ v → Ran s (piece ∷ pieces)
+    by without with Accepted e =
+        let asked = something-got s piece long 0 in
+        record { marks = asked .marks ++ with .marks; run = taken e (asked .got) (with .run) }
+    by without with (Refused why) e = record { marks = without .marks; run = passed e (without .run) }
+
+pub a-run-exists : (pieces : List (List ℕ)) → Ran freshState pieces
+a-run-exists pieces = runs freshState pieces fresh-long
 
 -- bits in front and behind
 bits-front : (l m : List ℕ) → AreBits (l ++ m) → AreBits l

@@ -147,7 +147,8 @@ fn judge(piece: &[u8], total: u32) -> Verdict
             place: at,
         });
     }
-    if ((LONGEST_RECORDING - total) as usize) < n {
+    let left = (LONGEST_RECORDING - total) as usize;
+    if left < n {
         return Verdict::Refused(Refusal {
             number: LONG_RECORDING,
             place: n,

@@ -1,26 +1,25 @@
-// Searches the recording on standard input for headers, after each read. It moves bits and does nothing else: marks, answers and text are
-// those of `marks`, `search` and `reporting`.
+// Searches the recording on standard input for headers, after each read. It moves bits and does nothing else: what is taken of them, and
+// the text from the heading to the last line, are `reporting`'s.
 use base::Edition;
-use base::LONG_RECORDING;
-use base::NO_BIT_IN_PIECE;
-use base::Refusal;
 use lines::Stop;
 use lines::Tally;
-use marks::LONGEST_RECORDING;
 use marks::State;
+use reporting::Opened;
 use streams::Next;
+use streams::after_read;
 use streams::after_write;
 use streams::read_on;
+use streams::turns_left;
 use streams::write;
 use word::table::TABLE_ROWS;
 ghost use mathlib.Core.Path.{_≡_};
 ghost use Prim.Native.Nat.{_+_, _*_, _<_, _≤_};
 ghost use lib.ListN.{length};
 ghost use Rattle.word.specs.Repairs.{syndromes};
-ghost use Rattle.lines.specs.Tallies.{totalOf};
+ghost use Rattle.lines.specs.Tallies.{nothingHeard, totalOf};
 ghost use Rattle.lines.specs.Rooms.{lineRoom};
-ghost use Rattle.marks.specs.Pieces.{longestRecording};
-ghost use Rattle.night.specs.Turns.{fittingOf, stopAfter, takingOf, afterStop, AllTold, Moves, Goes, Whole, Closing};
+ghost use Rattle.marks.specs.Pieces.{longestRecording, freshState};
+ghost use Rattle.night.specs.Turns.{afterStop, AllTold, Moves, Goes, Whole, Closing};
 ghost use Rattle.streams.specs.declared.Next.the-variants.{Done};
 
 // What a piece's lines leave: the tally, and whether all writes went well.
@@ -64,84 +63,33 @@ fn report_all(
     }
 }
 
-// How many of the bits that were read are taken, the state after these, and why no more are.
-struct Taking {
-    n: usize,
-    state: State,
-    stop: Stop,
-}
-
-// How many bits a recording takes of n.
-fn fitting(total: u32, n: usize) -> usize
-    ensures { λ r. ⌜ r ≡ fittingOf total n ⌝ }
-{
-    let room = (LONGEST_RECORDING - total) as usize;
-    if room < n {
-        return room;
-    }
-    n
-}
-
-// Why no more than n of so many bits are taken, of which `fits` fit the recording.
-fn stop_after(total: u32, n: usize, fits: usize, bits: usize) -> Stop
-    requires { ⌜ total + n ≤ longestRecording ⌝ }
-    ensures { λ r. ⌜ r ≡ stopAfter total n fits bits ⌝ }
-{
-    if n < fits {
-        return Stop::Stopped(Refusal {
-            number: NO_BIT_IN_PIECE,
-            place: total as usize + n,
-        });
-    }
-    if fits < bits {
-        return Stop::Stopped(Refusal {
-            number: LONG_RECORDING,
-            place: LONGEST_RECORDING as usize,
-        });
-    }
-    Stop::Nowhere
-}
-
-// Takes the bits before the first that cannot be taken.
-fn take_front(state: State, bits: &[u8]) -> Taking
-    ensures { λ r. ⌜ r ≡ takingOf state (now (bits .entry)) ⌝ }
-{
-    let total = state.total;
-    let fits = fitting(total, bits.len());
-    let n = air::first_no_bit(&bits[..fits]);
-    let taken = marks::take(state, &bits[..n]);
-    let after = taken.state;
-    Taking {
-        n,
-        state: after,
-        stop: stop_after(total, n, fits, bits.len()),
-    }
-}
-
-// What a turn leaves: the state, the tally, why the search stopped, and how to go on. It is done where it stopped too.
+// What a turn leaves: the state, the tally, why the search stopped, how many bytes the read left in the buffer, and how to go on. It is
+// done where it stopped too.
 struct Turned {
     state: State,
     tally: Tally,
     stop: Stop,
+    end: usize,
     next: Next,
 }
 
-// How to go on after a stop, or none, and the write before it.
-fn after_stop(stop: Stop, wrote: bool) -> Next
-    ensures { λ r. ⌜ r ≡ afterStop stop wrote ⌝ }
+// How to go on after a read, a stop or none, and the write that followed.
+fn after_stop(read: Next, stop: Stop, wrote: bool) -> Next
+    ensures { λ r. ⌜ r ≡ afterStop read stop wrote ⌝ }
 {
     match stop {
-        Stop::Nowhere => after_write(Next::More, wrote),
-        Stop::Stopped(why) => after_write(Next::Done, wrote),
+        Stop::Nowhere => after_write(read, wrote),
+        Stop::Stopped(why) => after_write(after_read(read, true), wrote),
     }
 }
 
-// Takes what was read, and writes the lines of its marks.
+// Takes what was read, which may be nothing, and writes the lines of its marks.
 fn take_bits(
     table: &[u16; TABLE_ROWS],
     edition: Edition,
     state: State,
     tally: Tally,
+    read: Next,
     bits: &[u8],
     out: &mut [u8],
 ) -> Turned
@@ -150,7 +98,7 @@ fn take_bits(
     requires { ⌜ lineRoom ≤ length (now out) ⌝ }
     ensures { λ r. ⌜ Moves edition state tally (now (bits .entry)) r ⌝ }
 {
-    let taking = take_front(state, bits);
+    let taking = reporting::take_front(state, bits);
     let n = taking.n;
     let done = report_all(table, edition, state, &bits[..n], tally, out);
     let after = taking.state;
@@ -160,7 +108,8 @@ fn take_bits(
         state: after,
         tally: counted,
         stop,
-        next: after_stop(stop, done.wrote),
+        end: bits.len(),
+        next: after_stop(read, stop, done.wrote),
     }
 }
 
@@ -180,40 +129,24 @@ fn turn(
     ensures { λ r. ⌜ Goes edition state tally (now (buf .exit)) r ⌝ }
 {
     let filled = read_on(buf, 0);
+    let end = filled.end;
     let read = filled.next;
-    match read {
-        Next::More => {
-            let end = filled.end;
-            take_bits(table, edition, state, tally, &buf[..end], out)
-        }
-        Next::Done => Turned {
-            state,
-            tally,
-            stop: Stop::Nowhere,
-            next: Next::Done,
-        },
-        Next::Failed => Turned {
-            state,
-            tally,
-            stop: Stop::Nowhere,
-            next: Next::Failed,
-        },
-    }
+    take_bits(table, edition, state, tally, read, &buf[..end], out)
 }
 
 // Writes the last line, after why the search stopped. There is none where it failed.
-fn finish(end: Turned, out: &mut [u8])
+fn finish(done: Turned, out: &mut [u8])
     requires { ⌜ 2 * lineRoom ≤ length (now out) ⌝ }
-    ensures { λ r. ⌜ Closing end (now (out .entry)) (now (out .exit)) ⌝ }
+    ensures { λ r. ⌜ Closing done (now (out .entry)) (now (out .exit)) ⌝ }
 {
-    let next = end.next;
+    let next = done.next;
     match next {
         Next::More => {}
         Next::Failed => {}
         Next::Done => {
-            let tally = end.tally;
-            let stop = end.stop;
-            let n = search_lines::put_ending(out, 0, end.state.total as u64, tally, stop);
+            let tally = done.tally;
+            let why = done.stop;
+            let n = reporting::close(done.state.total, tally, why, out);
             write(&out[..n]);
         }
     }
@@ -224,41 +157,29 @@ fn finish(end: Turned, out: &mut [u8])
 fn search_input(
     table: &[u16; TABLE_ROWS],
     edition: Edition,
+    start: Opened,
     buf: &mut [u8],
     out: &mut [u8],
 ) -> Turned
     requires { ⌜ now table ≡ syndromes ⌝ }
+    requires { ⌜ start .state ≡ freshState ⌝ }
+    requires { ⌜ start .tally ≡ nothingHeard ⌝ }
     requires { ⌜ 0 < length (now buf) ⌝ }
     requires { ⌜ lineRoom ≤ length (now out) ⌝ }
-    ensures { λ r. ⌜ (r .next ≡ Done → Whole edition r) ⌝ }
+    ensures { λ r. ⌜ (r .next ≡ Done → Whole edition (now (buf .exit)) r) ⌝ }
 {
-    let mut state = marks::fresh();
-    let mut tally = Tally {
-        accepted: 0,
-        refused: 0,
-    };
+    let mut state = start.state;
+    let mut tally = start.tally;
     let mut turns = u64::MAX;
-    while turns > 0 {
+    loop {
         let done = turn(table, edition, state, tally, buf, out);
         let next = done.next;
-        match next {
-            Next::More => {}
-            Next::Done => {
-                return done;
-            }
-            Next::Failed => {
-                return done;
-            }
+        turns = turns_left(turns, next);
+        if turns == 0 {
+            return done;
         }
         state = done.state;
         tally = done.tally;
-        turns -= 1;
-    }
-    Turned {
-        state,
-        tally,
-        stop: Stop::Nowhere,
-        next: Next::Failed,
     }
 }
 
@@ -267,10 +188,11 @@ fn run(edition: Edition) {
     let table = word::table::whole();
     let mut buf = io::large_buffer();
     let mut out = io::large_buffer();
-    let n = search_lines::put_heading(&mut out);
+    let opened = reporting::open(&mut out);
+    let n = opened.to;
     if write(&out[..n]) {
-        let end = search_input(&table, edition, &mut buf, &mut out);
-        finish(end, &mut out);
+        let done = search_input(&table, edition, opened, &mut buf, &mut out);
+        finish(done, &mut out);
     }
 }
 

@@ -15,7 +15,7 @@ use mir.Val.{Fits}
 use Rattle.text.specs.Text.{digit}
 use Rattle.options.specs.declared.Parsed.{Parsed}
 use Rattle.options.specs.declared.Parsed.the-variants.{Number, NoNumber}
-use Rattle.options.specs.Words.{most, digitOf, numberFrom, parsedOf}
+use Rattle.options.specs.Numbers.{most, digitOf, numberFrom, parsedOf}
 
 -- one more letter: below the digits, above them, and a digit
 module _ (number letter : ℕ) where

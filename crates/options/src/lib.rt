@@ -2,7 +2,8 @@
 use base::Edition;
 use libc::STDERR_FILENO;
 ghost use mathlib.Core.Path.{_≡_};
-ghost use Rattle.options.specs.Words.{digitOf, parsedOf};
+ghost use Rattle.options.specs.Numbers.{digitOf, parsedOf, Said};
+ghost use Rattle.options.specs.Words.{sameOf, wordOf, Given, settledOf, mistakenOf, editionBy, optionBy, afterOf, inAll, Asked};
 
 // What was asked for. `named` is set between `--edition` and its word.
 pub struct Options {
@@ -13,13 +14,28 @@ pub struct Options {
     pub wrong: bool,
 }
 
-// Room for the longest word and one byte more.
+// The words that programs know, and any other.
+pub enum Word {
+    Strict,
+    NamesEdition,
+    SaysFlown,
+    SaysCorrected,
+    Other,
+}
+
+// Room for the longest of them and more.
 const ROOM: usize = 16;
 
-// Whether the bytes of one slice are those at the front of another, as far as both go.
-fn alike(a: &[u8], b: &[u8]) -> bool {
+// Whether two slices are the same bytes.
+fn same(a: &[u8], b: &[u8]) -> bool
+    ensures { λ r. ⌜ r ≡ sameOf (now (a .entry)) (now (b .entry)) ⌝ }
+{
+    let n = a.len();
+    if n != b.len() {
+        return false;
+    }
     let mut i = 0;
-    while i < a.len() && i < b.len() {
+    while i < n {
         if a[i] != b[i] {
             return false;
         }
@@ -28,95 +44,138 @@ fn alike(a: &[u8], b: &[u8]) -> bool {
     true
 }
 
-// Whether word i is this text, of less than 16 bytes.
-pub fn is(i: usize, text: &[u8]) -> bool {
-    let mut word = [0u8; ROOM];
-    let n = os::arg(i, &mut word);
-    n == text.len() && alike(&word, text)
+// Which word some bytes are.
+fn known(bytes: &[u8]) -> Word
+    ensures { λ r. ⌜ r ≡ wordOf (now (bytes .entry)) ⌝ }
+{
+    if same(bytes, b"--strict") {
+        return Word::Strict;
+    }
+    if same(bytes, b"--edition") {
+        return Word::NamesEdition;
+    }
+    if same(bytes, b"flown") {
+        return Word::SaysFlown;
+    }
+    if same(bytes, b"corrected") {
+        return Word::SaysCorrected;
+    }
+    Word::Other
 }
 
-// What is asked for after word i.
-fn after(asked: Options, i: usize) -> Options {
-    let strict = asked.strict;
-    let edition = asked.edition;
-    let wrong = asked.wrong;
-    if asked.named {
-        if is(i, b"flown") {
-            let edition = Edition::Flown;
-            return Options {
-                strict,
-                edition,
-                named: false,
-                wrong,
-            };
-        }
-        if is(i, b"corrected") {
-            let edition = Edition::Corrected;
-            return Options {
-                strict,
-                edition,
-                named: false,
-                wrong,
-            };
-        }
-        return Options {
-            strict,
-            edition,
-            named: false,
-            wrong: true,
-        };
-    }
-    if is(i, b"--edition") {
-        return Options {
-            strict,
-            edition,
-            named: true,
-            wrong,
-        };
-    }
-    if is(i, b"--strict") {
-        return Options {
-            strict: true,
-            edition,
-            named: false,
-            wrong,
-        };
-    }
+// Word i. One that is not there, or is longer than any of those, is another.
+pub fn word_at(i: usize) -> Word
+    ensures { λ r. ⌜ Given r ⌝ }
+{
+    let mut room = [0u8; ROOM];
+    let n = os::arg(i, &mut room);
+    known(&room[..n])
+}
+
+// What was asked for, now under this edition.
+fn settled(asked: Options, edition: Edition) -> Options
+    ensures { λ r. ⌜ r ≡ settledOf asked edition ⌝ }
+{
     Options {
-        strict,
+        strict: asked.strict,
+        edition,
+        named: false,
+        wrong: asked.wrong,
+    }
+}
+
+// What was asked for, with a wrong word.
+fn mistaken(asked: Options) -> Options
+    ensures { λ r. ⌜ r ≡ mistakenOf asked ⌝ }
+{
+    let edition = asked.edition;
+    Options {
+        strict: asked.strict,
         edition,
         named: false,
         wrong: true,
     }
 }
 
-// Reads all words. One that is still to come after `--edition` is missing.
-pub fn read() -> Options {
-    let edition = Edition::Flown;
+// What is asked for with the word after `--edition`.
+fn after_edition(asked: Options, word: Word) -> Options
+    ensures { λ r. ⌜ r ≡ editionBy asked word ⌝ }
+{
+    match word {
+        Word::SaysFlown => settled(asked, Edition::Flown),
+        Word::SaysCorrected => settled(asked, Edition::Corrected),
+        Word::Strict => mistaken(asked),
+        Word::NamesEdition => mistaken(asked),
+        Word::Other => mistaken(asked),
+    }
+}
+
+// What is asked for with any other word.
+fn after_option(asked: Options, word: Word) -> Options
+    ensures { λ r. ⌜ r ≡ optionBy asked word ⌝ }
+{
+    let edition = asked.edition;
+    match word {
+        Word::NamesEdition => Options {
+            strict: asked.strict,
+            edition,
+            named: true,
+            wrong: asked.wrong,
+        },
+        Word::Strict => Options {
+            strict: true,
+            edition,
+            named: false,
+            wrong: asked.wrong,
+        },
+        Word::SaysFlown => mistaken(asked),
+        Word::SaysCorrected => mistaken(asked),
+        Word::Other => mistaken(asked),
+    }
+}
+
+// What is asked for after a word.
+fn after(asked: Options, word: Word) -> Options
+    ensures { λ r. ⌜ r ≡ afterOf asked word ⌝ }
+{
+    if asked.named {
+        return after_edition(asked, word);
+    }
+    after_option(asked, word)
+}
+
+// What is asked for after the last word. One that is still to come after `--edition` is missing.
+fn in_all(asked: Options) -> Options
+    ensures { λ r. ⌜ r ≡ inAll asked ⌝ }
+{
+    let strict = asked.strict;
+    let edition = asked.edition;
+    Options {
+        strict,
+        edition,
+        named: false,
+        wrong: asked.wrong || asked.named,
+    }
+}
+
+// Reads all words.
+pub fn read() -> Options
+    ensures { λ r. ⌜ Asked r ⌝ }
+{
     let mut asked = Options {
         strict: false,
-        edition,
+        edition: Edition::Flown,
         named: false,
         wrong: false,
     };
     let count = os::arg_count();
     let mut i = 1;
     while i < count {
-        let next = after(asked, i);
+        let next = after(asked, word_at(i));
         asked = next;
         i += 1;
     }
-    if asked.named {
-        let strict = asked.strict;
-        let edition = asked.edition;
-        return Options {
-            strict,
-            edition,
-            named: false,
-            wrong: true,
-        };
-    }
-    asked
+    in_all(asked)
 }
 
 // Tells of a wrong word, and of the right ones, where a program takes an edition and no other word.
@@ -170,7 +229,9 @@ fn parse(word: &[u8]) -> Parsed
 }
 
 // What word i says. A word that is not there, or is longer than any number, says none.
-pub fn number(i: usize) -> Parsed {
+pub fn number(i: usize) -> Parsed
+    ensures { λ r. ⌜ Said r ⌝ }
+{
     let mut room = io::buffer();
     let n = os::arg(i, &mut room);
     parse(&room[..n])

@@ -1,75 +1,55 @@
--- The program's turns: the buffers keep their lengths, and there is room to read on.
+-- The program's turns: what is left of a piece is within it, and no longer than a line where none is wrong.
 -- Assumes nothing.
-use mathlib.Core.Path.{_≡_, refl, sym, ap, _∙_}
-use mathlib.Core.Bool.{Bool, true, not}
+use mathlib.Core.Path.{_≡_}
+use mathlib.Core.Bool.{true, false}
 use mathlib.Core.List.{List}
-use Prim.Native.Nat.{ℕ, _*_, _<_, _≤_}
+use Prim.Native.Nat.{ℕ, _+_, _*_, _<_, _≤_}
 use native.Mathlib.Omega.{arith}
 use lib.ListN.{length, take}
-use borrow.Author.Tests.{not-false}
 use Rattle.text.proofs.Sizes.{part-size}
 use Rattle.packing.specs.declared.Judged.{Judged}
-use Rattle.packing.specs.declared.Judged.the-variants.{Fine, Wrong}
-use Rattle.packing.specs.declared.PackedLines.{PackedLines}
+use Rattle.packing.specs.declared.PackedPiece.{PackedPiece}
 use Rattle.packing.specs.Lines.{longestLine}
 use Rattle.packing.specs.Packing.{fineOf}
 use Rattle.packing.specs.Promises.{Turns}
-use Rattle.packing.proofs.Keeping.{left-inside, left-short}
+use Rattle.packing.proofs.Keeping.{left-inside, left-short, open-fine}
+use Rattle.streams.specs.declared.Filled.{Filled}
 use Rattle.streams.specs.declared.Next.{Next}
 use Rattle.streams.specs.declared.Next.the-variants.{More}
-use Rattle.streams.specs.Turns.{readOn, onwardOf}
-use Rattle.streams.proofs.Reading.{more-open}
-use Rattle.pack.specs.declared.State.{State}
-use Rattle.pack.specs.Turns.{Turned}
+use Rattle.streams.specs.Turns.{ReadOn, TurnsLeft}
+use Rattle.streams.proofs.Rounds.{Ready, starts, goes-on, kept-inside}
 
-is-fine : (j : Judged) → fineOf j ≡ true → j ≡ Fine
-is-fine Fine e = refl
-is-fine (Wrong fault column) e = absurd (let z : _≡_ {A = ℕ} 0 1 = cc in omega arith)
+-- what holds at each turn: there is room to read on, and what is kept is no longer than a line where none is wrong
+pub record Kept (buf₀ out₀ buf out : List ℕ) (judged : Judged) (kept turns : ℕ) : Type 0 where
+  pub ready : Ready (longestLine + 1) buf₀ out₀ buf out kept turns
+  pub short : fineOf judged ≡ true → kept ≤ longestLine
 
--- what a turn leaves
-module _ (buf : List ℕ) (end : ℕ) (in-buf : end ≤ length buf) (out buf′ out′ : List ℕ) (r : PackedLines) (so : Turns buf end out buf′ out′ r) where
-  pub turn-leaves : (lines : ℕ) (fine : Bool) (read on next : Next) (wrote : Bool) → fine ≡ fineOf (r .judged) → on ≡ readOn read (not fine) → next ≡ onwardOf on wrote
-      → Turned buf (record { lines = lines; kept = r .left; judged = r .judged; next = next })
-  turn-leaves lines fine read on next wrote tells over is =
-      let few : fineOf (r .judged) ≡ true → r .left ≤ longestLine = λ e. left-short (take end buf) out 0 out′ r (so .packed) (is-fine (r .judged) e) in
+pub begins : (buf out : List ℕ) (judged : Judged) (turns : ℕ) → longestLine < length buf → Kept buf out buf out judged 0 turns
+begins buf out judged turns fits = record { ready = starts (longestLine + 1) buf out turns (omega arith) (omega arith); short = λ e. omega arith }
+
+-- a read, after which the buffer is `read`, the records of what was read, and their write
+module _ (f : Filled) (lines : ℕ) (read out buf′ out′ : List ℕ) (r : PackedPiece) (so : Turns lines read (f .end) out buf′ out′ r)
+    (buf : List ℕ) (kept : ℕ) (filled : ReadOn buf kept f) (same : length read ≡ length buf) where
+  few : fineOf (r .judged) ≡ true → r .left ≤ longestLine
+  few = left-short lines read (f .end) out buf′ out′ r so
+
+  pub packs-on : (buf₀ out₀ : List ℕ) (judged : Judged) (turns : ℕ) → Kept buf₀ out₀ buf out judged kept turns → length buf′ ≡ length read → length out′ ≡ length out
+      → (next : Next) → (next ≡ More → r .over ≡ false) → (turns′ : ℕ) → TurnsLeft turns next turns′ → Kept buf₀ out₀ buf′ out′ (r .judged) (r .left) turns′
+  packs-on buf₀ out₀ judged turns holds input output next sent turns′ turned =
       record {
-        inside = omega (arith, left-inside buf end in-buf out out′ r (so .packed));
+        ready = goes-on (longestLine + 1) buf₀ out₀ buf out kept turns (holds .ready) read buf′ out′ (r .left) (r .over) next turns′ same input output
+            (omega (arith, filled .inside, left-inside read (f .end) (omega (arith, filled .inside)) (r .left) (so .left-is)))
+            (λ e. omega (arith, few (open-fine lines read (f .end) out buf′ out′ r so e))) sent turned;
         short = few;
-        more-short = λ e. few (sym tells ∙ not-false fine (more-open read (not fine) wrote (sym (is ∙ ap (λ (n : Next). onwardOf n wrote) over) ∙ e)));
       }
 
 -- the last line is short, and has room
-module _ (buf : List ℕ) (r : State) (so : Turned buf r) (fine : Bool) (tells : fine ≡ fineOf (r .judged)) (is : fine ≡ true) where
-  pub last-short : length (take (r .kept) buf) ≤ longestLine
-  last-short = omega (arith, so .short (sym tells ∙ is), part-size buf (r .kept) (so .inside))
+module _ (buf₀ out₀ buf out : List ℕ) (judged : Judged) (kept turns : ℕ) (holds : Kept buf₀ out₀ buf out judged kept turns) where
+  lent : kept ≤ length buf
+  lent = kept-inside (longestLine + 1) buf₀ out₀ buf out kept turns (holds .ready)
 
-pub last-fits : (buf : List ℕ) (r : State) → Turned buf r → (room : ℕ) → 2 * length buf ≤ room → 2 * length (take (r .kept) buf) ≤ room
-last-fits buf r so room h = omega (arith, so .inside, part-size buf (r .kept) (so .inside))
+  pub last-short : fineOf judged ≡ true → length (take kept buf) ≤ longestLine
+  last-short fine = omega (arith, holds .short fine, part-size buf kept lent)
 
--- what holds at each turn
-pub record Ready (buf₀ out₀ buf out : List ℕ) (kept : ℕ) : Type 0 where
-  pub least : longestLine < length buf₀
-  pub room : 2 * length buf₀ ≤ length out₀
-  pub input : length buf ≡ length buf₀
-  pub output : length out ≡ length out₀
-  pub short : kept ≤ longestLine
-
-pub starts : (buf out : List ℕ) → longestLine < length buf → 2 * length buf ≤ length out → Ready buf out buf out 0
-starts buf out least room = record { least = least; room = room; input = refl; output = refl; short = omega arith }
-
--- a read and a turn later: the buffer after the read is `read`
-pub goes-on : (buf₀ out₀ buf out : List ℕ) (kept : ℕ) → Ready buf₀ out₀ buf out kept → (read buf′ out′ : List ℕ) (r : State)
-    → Turned read r → r .next ≡ More → length read ≡ length buf → length buf′ ≡ length read → length out′ ≡ length out
-    → Ready buf₀ out₀ buf′ out′ (r .kept)
-goes-on buf₀ out₀ buf out kept so read buf′ out′ r turned more same input output =
-    record {
-      least = so .least;
-      room = so .room;
-      input = input ∙ same ∙ so .input;
-      output = output ∙ so .output;
-      short = turned .more-short more;
-    }
-
--- the buffer after a turn is as long as before it, which is all that is said of it
-pub same-turned : (read buf′ : List ℕ) (r : State) → Turned read r → length buf′ ≡ length read → Turned buf′ r
-same-turned read buf′ r so same = record { inside = rw same (so .inside); short = so .short; more-short = so .more-short }
+  pub last-fits : 2 * length buf₀ ≤ length out₀ → 2 * length (take kept buf) ≤ length out
+  last-fits room = omega (arith, holds .ready .input, holds .ready .output, lent, part-size buf kept lent)

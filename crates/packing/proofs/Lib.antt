@@ -6,6 +6,7 @@ pub mod Fronts
 pub mod Scans
 pub mod Scanning
 pub mod Keeping
+pub mod Closing
 pub mod Letters
 pub mod RoundTrip
 pub mod WholeBack

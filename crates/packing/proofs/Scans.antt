@@ -16,7 +16,6 @@ use Rattle.packing.specs.declared.Front.{Front}
 use Rattle.packing.specs.declared.Front.the-variants.{Line, TooLong, Unended}
 use Rattle.packing.specs.Lines.{longestLine, Packing, packOf}
 use Rattle.packing.specs.Packing.{fineOf, frontOf, Scan, stay, after, packAt, scanIn, scanOf}
-use Rattle.packing.proofs.Judging.{fine-wrong}
 use Rattle.packing.proofs.Fronts.{line-at, unended-at, no-bytes}
 
 -- what the first n bytes pack to, as a line
@@ -32,10 +31,14 @@ pub data Stopped (l : List ℕ) : Judged → Type 0 where
 true-false : true ≡ false → ⊥
 true-false e = let z : _≡_ {A = ℕ} 0 1 = cc in omega arith
 
+pub fine-is : (j : Judged) → fineOf j ≡ true → j ≡ Fine
+fine-is Fine e = refl
+fine-is (Wrong fault column) e = absurd (true-false (sym e))
+
 -- where nothing is wrong, what is left is no longer than a line
-pub stopped-short : (l : List ℕ) (j : Judged) → Stopped l j → j ≡ Fine → length l ≤ longestLine
-stopped-short l j (wrong e g) is = absurd (true-false (sym (ap fineOf is) ∙ g))
-stopped-short l j (long e) is = absurd (fine-wrong (sym is))
+pub stopped-short : (l : List ℕ) (j : Judged) → Stopped l j → fineOf j ≡ true → length l ≤ longestLine
+stopped-short l j (wrong e g) is = absurd (true-false (sym is ∙ g))
+stopped-short l j (long e) is = absurd (true-false (sym is))
 stopped-short l j (open' e) is = unended-at l e
 
 -- what is done with the bytes after the first line matters only there

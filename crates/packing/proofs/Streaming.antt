@@ -1,10 +1,10 @@
--- THE RECORDS OF PIECES: however the lines are cut into pieces, the records are those of the whole.
+-- THE RECORDS OF PIECES: however the lines are cut into pieces, the records are those of the whole, and so is what is told at the end.
 -- Assumes nothing.
 use mathlib.Core.Path.{_≡_, refl, sym, ap, _∙_}
 use mathlib.Core.Bool.{Bool, true, false, cond, true≢false}
 use mathlib.Core.List.{List, [], _∷_, _++_, append-assoc, append-nil, flatten}
 use mathlib.Core.Logic.{⊎-elim}
-use Prim.Native.Nat.{ℕ, _+_, _<_, _≤_}
+use Prim.Native.Nat.{ℕ, _+_, _^_, _<_, _≤_}
 use native.Mathlib.Omega.{arith}
 use lib.Dec.{eqb}
 use lib.ListN.{length, take, drop, length-append, List·getD-append}
@@ -18,10 +18,10 @@ use Rattle.packing.specs.declared.Fault.the-variants.{LongLine}
 use Rattle.packing.specs.declared.Front.the-variants.{Line, TooLong}
 use Rattle.packing.specs.Lines.{longestLine, packOf}
 use Rattle.packing.specs.Packing.{fineOf, frontOf, Scan, stay, after, scanOf}
-use Rattle.packing.specs.Pieces.{goesOn, endLine, wholePacked, fedOf, streamedOf}
+use Rattle.packing.specs.Pieces.{Told, behind, linesAfter, closedOf, endsAt, goesOn, wholePacked, fedOf, streamedOf}
 use Rattle.packing.proofs.Digits.{isMark, place-inside}
 use Rattle.packing.proofs.Fronts.{next-long, next-whole, LineAt, line-at, long-at, no-bytes}
-use Rattle.packing.proofs.Scans.{lineIn, Stopped, wrong, long, open', scan-stops, scan-takes, by-lines, scan-stopped}
+use Rattle.packing.proofs.Scans.{lineIn, Stopped, wrong, long, open', scan-stops, scan-takes, by-lines, scan-stopped, fine-is}
 use Rattle.packing.proofs.Scanning.{further}
 
 -- WHAT STANDS AT THE FRONT STAYS, whatever follows, unless the line has not ended
@@ -112,33 +112,48 @@ scan-append f = by-lines (λ l. scanOf (l ++ f) ≡ resumed (scanOf l) f) stops 
         scan-takes (l ++ f) n (line-stays l f n e) good
         ∙ rw (letters, rest-stays l f n e, more, scan-takes l n e g) (resumed-after (lineIn n l .bytes) (scanOf (drop (n + 1) l)) f)
 
+-- lines are counted on, however many at once
+count-on : (lines a b : ℕ) → linesAfter (linesAfter lines a) b ≡ linesAfter lines (a + b)
+count-on lines a b = omega arith
+
+-- a wrong line ends it, whatever follows
+wrong-ends : (lines : ℕ) (j : Judged) (rest other : List ℕ) → fineOf j ≡ false → closedOf lines j rest ≡ closedOf lines j other
+wrong-ends lines Fine rest other e = absurd (true≢false e)
+wrong-ends lines (Wrong fault column) rest other e = refl
+
 -- a piece, and what follows
-one-piece : (s : Scan) (f : List ℕ) (next : List ℕ → List ℕ) → (fineOf (s .judged) ≡ true → next (s .rest) ≡ goesOn (scanOf (s .rest ++ f)) endLine) → goesOn s next ≡ goesOn (resumed s f) endLine
-one-piece s f next more = by (fineOf (s .judged)) refl more
-  where
-    by : (b : Bool) → fineOf (s .judged) ≡ b → (b ≡ true → next (s .rest) ≡ goesOn (scanOf (s .rest ++ f)) endLine) → goesOn s next ≡ goesOn (resumed s f) endLine
-    by false e more = rw (e, e)
-    by true e more =
-        let t : Scan = scanOf (s .rest ++ f) in
-        rw (e, more refl) (sym (append-assoc (s .bytes) (t .bytes) (cond (fineOf (t .judged)) (endLine (t .rest)) [])))
+module _ (lines : ℕ) (s : Scan) (f : List ℕ) (next : ℕ → List ℕ → Told) where
+  abbrev after-piece : ℕ
+  after-piece = linesAfter lines (s .lines)
+
+  one-piece : (fineOf (s .judged) ≡ true → next after-piece (s .rest) ≡ endsAt after-piece (scanOf (s .rest ++ f))) → goesOn lines s next ≡ endsAt lines (resumed s f)
+  one-piece more = by (fineOf (s .judged)) refl more
+    where
+      by : (b : Bool) → fineOf (s .judged) ≡ b → (b ≡ true → next after-piece (s .rest) ≡ endsAt after-piece (scanOf (s .rest ++ f))) → goesOn lines s next ≡ endsAt lines (resumed s f)
+      by false e more = rw e (ap (behind (s .bytes)) (wrong-ends after-piece (s .judged) (s .rest) (s .rest ++ f) e))
+      by true e more =
+          let t : Scan = scanOf (s .rest ++ f) in
+          rw (e, more refl, ← count-on lines (s .lines) (t .lines), append-assoc)
 
 -- where nothing is wrong, what is left is packed no further by itself
 rest-idle : (l : List ℕ) → fineOf (scanOf l .judged) ≡ true → scanOf (scanOf l .rest) ≡ stay (scanOf l .rest) Fine
-rest-idle l e = scan-stops (scanOf l .rest) (scanOf l .judged) (scan-stopped l) ∙ ap (stay (scanOf l .rest)) (is-fine (scanOf l .judged) e)
-  where
-    is-fine : (j : Judged) → fineOf j ≡ true → j ≡ Fine
-    is-fine Fine e = refl
-    is-fine (Wrong fault column) e = absurd (true≢false (sym e))
+rest-idle l e = scan-stops (scanOf l .rest) (scanOf l .judged) (scan-stopped l) ∙ ap (stay (scanOf l .rest)) (fine-is (scanOf l .judged) e)
 
-fed-is : (pieces : List (List ℕ)) (kept : List ℕ) → scanOf kept ≡ stay kept Fine → fedOf kept pieces ≡ goesOn (scanOf (kept ++ flatten pieces)) endLine
+fed-is : (pieces : List (List ℕ)) (lines : ℕ) (kept : List ℕ) → scanOf kept ≡ stay kept Fine → fedOf lines kept pieces ≡ endsAt lines (scanOf (kept ++ flatten pieces))
 unfolding flatten
-fed-is [] kept quiet = rw (append-nil, quiet)
-fed-is (piece ∷ pieces) kept quiet =
+fed-is [] lines kept quiet = rw (append-nil, quiet, count-on lines 0 1)
+fed-is (piece ∷ pieces) lines kept quiet =
     let s : Scan = scanOf (kept ++ piece) in
-    one-piece s (flatten pieces) (λ k. fedOf k pieces) (λ e. fed-is pieces (s .rest) (rest-idle (kept ++ piece) e))
-    ∙ ap (λ (r : Scan). goesOn r endLine) (sym (scan-append (flatten pieces) (kept ++ piece)) ∙ ap scanOf (append-assoc kept piece (flatten pieces)))
+    one-piece lines s (flatten pieces) (λ n k. fedOf n k pieces) (λ e. fed-is pieces (linesAfter lines (s .lines)) (s .rest) (rest-idle (kept ++ piece) e))
+    ∙ ap (endsAt lines) (sym (scan-append (flatten pieces) (kept ++ piece)) ∙ ap scanOf (append-assoc kept piece (flatten pieces)))
 
--- however the lines are cut into pieces, what is written is the records of the whole
+-- however the lines are cut into pieces, the records that are written are those of the whole, and the same line is told, and what is
+-- wrong with it
 pub whole-packing : (pieces : List (List ℕ)) → streamedOf pieces ≡ wholePacked (flatten pieces)
 unfolding streamedOf wholePacked
-whole-packing pieces = fed-is pieces [] (scan-stops [] Fine (open' (no-bytes [] (omega arith))))
+whole-packing pieces = fed-is pieces 0 [] (scan-stops [] Fine (open' (no-bytes [] (omega arith))))
+
+-- the line that is told is the one after those that were packed
+pub told-line : (input : List ℕ) → scanOf input .lines + 1 < 2 ^ 64 → wholePacked input .line ≡ scanOf input .lines + 1
+unfolding wholePacked
+told-line input small = omega arith

@@ -1,8 +1,8 @@
 -- THE WAY BACK OF A WHOLE INPUT: its lines pack to its records, and with the bytes that are left these are the input.
 -- Assumes nothing.
-use mathlib.Core.Path.{_≡_, sym, ap, _∙_, refl}
+use mathlib.Core.Path.{_≡_, sym, ap, _∙_, refl, subst}
 use mathlib.Core.Bool.{Bool}
-use mathlib.Core.List.{List, [], _∷_, _++_, append-assoc}
+use mathlib.Core.List.{List, [], _∷_, _++_, append-assoc, append-nil}
 use Prim.Native.Nat.{ℕ, zero, suc, _+_, _/_, _%_, _<_, _≤_}
 use native.Mathlib.Omega.{arith}
 use lib.ListN.{length, getD, take, drop, length-drop, take-append-drop, List·getD-eq-default}
@@ -18,7 +18,9 @@ use Rattle.record.proofs.Walking.{Stopped, walk-stops, walk-takes, by-records}
 use Rattle.unpacking.specs.Lines.{textLineIn}
 use Rattle.unpacking.specs.Unpacking.{lineWalk, unpackedOf, scanOf as unpackScan}
 use Rattle.packing.specs.declared.Judged.the-variants.{Fine}
+use Rattle.packing.specs.Lines.{passedOver, endIn, packOf}
 use Rattle.packing.specs.Packing.{Scan, stay, after, scanOf}
+use Rattle.packing.specs.Pieces.{wholePacked}
 use Rattle.packing.proofs.Fronts.{no-bytes}
 use Rattle.packing.proofs.Scans.{open', scan-stops}
 use Rattle.packing.proofs.Letters.{AreBytes}
@@ -100,12 +102,29 @@ whole-back input =
     (λ s l over stopped are. none-back l over stopped)
     (λ s l n e g more are. one-back l n e are (more (bytes-drop (recordSize n) l are))) tt input
 
--- and none of these lines is wrong
+-- what holds where nothing is packed, and after one line more, holds of all lines of an input
+module _ (P : Scan → Type 0) (none : P (stay [] Fine)) (one-more : (bytes : List ℕ) (s : Scan) → P s → P (after bytes s)) where
+  every-line : (input : List ℕ) → AreBytes input → P (scanOf (unpackedOf input))
+  every-line input =
+      by-records lineWalk (λ s l. AreBytes l → P (scanOf (unpackScan l .text)))
+      (λ s l over stopped are. subst P (sym (ap (λ (w : Walked (Unit {0})). scanOf (w .text)) (walk-stops lineWalk tt l over stopped) ∙ nothing-packed)) none)
+      (λ s l n e g more are.
+      let next : List ℕ = unpackScan (drop (recordSize n) l) .text in
+      subst P (sym (ap (λ (w : Walked (Unit {0})). scanOf (w .text)) (walk-takes lineWalk tt l n e refl) ∙ record-back l n e are next))
+      (one-more (lengthOf n ++ airIn l ++ payloadIn n l) (scanOf next) (more (bytes-drop (recordSize n) l are)))) tt input
+
+-- and none of these lines is wrong, or without its end
 pub all-well : (input : List ℕ) → AreBytes input → scanOf (unpackedOf input) .judged ≡ Fine
-all-well input =
-    by-records lineWalk (λ s l. AreBytes l → scanOf (unpackScan l .text) .judged ≡ Fine)
-    (λ s l over stopped are. ap (λ (w : Walked (Unit {0})). scanOf (w .text) .judged) (walk-stops lineWalk tt l over stopped) ∙ ap (λ (p : Scan). p .judged) nothing-packed)
-    (λ s l n e g more are.
-    ap (λ (w : Walked (Unit {0})). scanOf (w .text) .judged) (walk-takes lineWalk tt l n e refl)
-    ∙ ap (λ (p : Scan). p .judged) (record-back l n e are (unpackScan (drop (recordSize n) l) .text))
-    ∙ more (bytes-drop (recordSize n) l are)) tt input
+all-well = every-line (λ s. s .judged ≡ Fine) refl (λ bytes s e. e)
+
+pub all-ended : (input : List ℕ) → AreBytes input → scanOf (unpackedOf input) .rest ≡ []
+all-ended = every-line (λ s. s .rest ≡ []) refl (λ bytes s e. e)
+
+-- SO what is written for these lines is the records of the input
+no-letters : packOf [] .bytes ≡ []
+unfolding packOf passedOver endIn
+no-letters = refl
+
+pub packed-back : (input : List ℕ) → AreBytes input → wholePacked (unpackedOf input) .bytes ++ unpackScan input .rest ≡ input
+unfolding wholePacked
+packed-back input are = rw (all-well input are, all-ended input are, no-letters, append-nil) (whole-back input are)

@@ -2,6 +2,7 @@
 use air::AIR_BITS;
 use air::LONGEST_PAYLOAD;
 ghost use mathlib.Core.Path.{_≡_};
+ghost use mathlib.Core.Bool.{true};
 ghost use Prim.Native.Nat.{_+_, _*_, _<_, _≤_};
 ghost use lib.ListN.{length};
 ghost use Rattle.air.specs.Air.{payloadLimit};
@@ -11,7 +12,8 @@ ghost use Rattle.record.specs.Records.{lengthOf};
 ghost use Rattle.packing.specs.Digits.{digitValue, digitsAhead, AreDigits, bitsIn, bytesIn};
 ghost use Rattle.packing.specs.Lines.{longestLine, headerJudged, payloadJudged, judgedOf, headerBytes, recordOf, endIn, passedOver, digitsFrom};
 ghost use Rattle.packing.specs.Packing.{frontOf, fineOf};
-ghost use Rattle.packing.specs.Promises.{PacksParts, Packs, Scanned, Turns};
+ghost use Rattle.packing.specs.Pieces.{opened};
+ghost use Rattle.packing.specs.Promises.{PacksParts, Packs, Scanned, Turns, Closes};
 
 // The most letters of a line before its line feed, also of one that is passed over. The longest line of a record has 2,467.
 pub const LONGEST_LINE: usize = 4095;
@@ -58,6 +60,23 @@ pub struct PackedLines {
     pub lines: usize,
     pub left: usize,
     pub to: usize,
+    pub judged: Judged,
+}
+
+// A piece was packed: the lines before what is left of it, how many bytes are left, the place after the records, whether the line that
+// is left is wrong, and so whether no more lines are packed.
+pub struct PackedPiece {
+    pub lines: u64,
+    pub left: usize,
+    pub to: usize,
+    pub judged: Judged,
+    pub over: bool,
+}
+
+// The input has ended, or a line is wrong: the place after the last record, and the number of the line that was judged.
+pub struct Ended {
+    pub to: usize,
+    pub line: u64,
     pub judged: Judged,
 }
 
@@ -410,14 +429,54 @@ pub fn pack_lines(piece: &[u8], out: &mut [u8], at: usize) -> PackedLines
     }
 }
 
-// The first `end` bytes of a buffer: the records of their lines go into `out`, and what is left goes to the buffer's front.
-pub fn pack_piece(buf: &mut [u8], end: usize, out: &mut [u8]) -> PackedLines
+// Where packing starts: no line is wrong yet.
+pub fn open() -> Judged
+    ensures { λ r. ⌜ r ≡ opened ⌝ }
+{
+    let start = Judged::Fine;
+    start
+}
+
+// The first `end` bytes of a buffer, after so many lines: the records of their lines go into `out`, and what is left goes to the buffer's
+// front. A number of lines past 2^64, which no input reaches, would wrap.
+pub fn pack_piece(lines: u64, buf: &mut [u8], end: usize, out: &mut [u8]) -> PackedPiece
     requires { ⌜ end ≤ length (now buf) ⌝ }
     requires { ⌜ 2 * end ≤ length (now out) ⌝ }
-    ensures { λ r. ⌜ Turns (now (buf .entry)) end (now (out .entry)) (now (buf .exit)) (now (out .exit)) r ⌝ }
+    ensures { λ r. ⌜ Turns lines (now (buf .entry)) end (now (out .entry)) (now (buf .exit)) (now (out .exit)) r ⌝ }
 {
     let packed = pack_lines(&buf[..end], out, 0);
     let left = packed.left;
     record::keep(buf, end - left, left);
-    packed
+    let judged = packed.judged;
+    PackedPiece {
+        lines: std::num::wrapping_add_u64(lines, packed.lines as u64),
+        left,
+        to: packed.to,
+        judged,
+        over: !is_fine(judged),
+    }
+}
+
+// After so many lines the input has ended, or a line is wrong. Where none is, the rest is a last line that no line feed ended, and its
+// record goes to the front of `out`.
+pub fn close(lines: u64, judged: Judged, rest: &[u8], out: &mut [u8]) -> Ended
+    requires { ⌜ (fineOf judged ≡ true → length (now rest) ≤ longestLine) ⌝ }
+    requires { ⌜ 2 * length (now rest) ≤ length (now out) ⌝ }
+    ensures { λ r. ⌜ Closes lines judged (now (rest .entry)) (now (out .entry)) (now (out .exit)) r ⌝ }
+{
+    let line = std::num::wrapping_add_u64(lines, 1);
+    if is_fine(judged) {
+        let last = pack_line(rest, out, 0);
+        let judged = last.judged;
+        return Ended {
+            to: last.to,
+            line,
+            judged,
+        };
+    }
+    Ended {
+        to: 0,
+        line,
+        judged,
+    }
 }

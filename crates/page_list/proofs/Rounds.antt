@@ -1,60 +1,30 @@
--- The program's turns: the buffers keep their lengths, and there is room to read on.
+-- A turn of the program: what `page_listing` leaves of a piece is within it, and less than a record where the listing is not over.
 -- Assumes nothing.
-use mathlib.Core.Path.{_≡_, refl, sym, ap, _∙_}
-use mathlib.Core.Bool.{Bool, true, false}
+use mathlib.Core.Path.{_≡_}
+use mathlib.Core.Bool.{false}
 use mathlib.Core.List.{List}
-use Prim.Native.Nat.{ℕ, _*_, _<_, _≤_}
+use Prim.Native.Nat.{ℕ, _≤_}
 use native.Mathlib.Omega.{arith}
 use lib.ListN.{length, take}
 use Rattle.air.specs.Air.{payloadLimit}
 use Rattle.header.specs.declared.Rules.{Rules}
 use Rattle.record.specs.Records.{recordSize}
+use Rattle.streams.specs.declared.Filled.{Filled}
 use Rattle.streams.specs.declared.Next.{Next}
 use Rattle.streams.specs.declared.Next.the-variants.{More}
-use Rattle.streams.specs.Turns.{readOn, onwardOf}
-use Rattle.streams.proofs.Reading.{failed-more, read-open}
+use Rattle.streams.specs.Turns.{ReadOn, TurnsLeft}
+use Rattle.streams.proofs.Rounds.{Ready, goes-on}
 use Rattle.page_lines.specs.declared.Counts.{Counts}
 use Rattle.page_listing.specs.declared.Listed.{Listed}
-use Rattle.page_listing.specs.Listing.{growth}
 use Rattle.page_listing.specs.Promises.{Turns}
 use Rattle.page_listing.proofs.Keeping.{left-inside, left-short}
-use Rattle.page_list.specs.declared.State.{State}
-use Rattle.page_list.specs.Turns.{Turned}
 
--- more is read only where the listing is not over
-more-open : (read : Next) (over wrote : Bool) → onwardOf (readOn read over) wrote ≡ More → over ≡ false
-more-open read over false e = absurd (failed-more e)
-more-open read over true e = read-open read over e
-
--- what a turn leaves
-pub turn-leaves : (rules : Rules) (c : Counts) (buf : List ℕ) (end : ℕ) → end ≤ length buf → (out buf′ out′ : List ℕ) (r : Listed) → Turns rules c buf end out buf′ out′ r
-    → (read on next : Next) (wrote : Bool) → on ≡ readOn read (r .over) → next ≡ onwardOf on wrote → Turned buf (record { counts = r .counts; kept = r .left; next = next })
-turn-leaves rules c buf end inside out buf′ out′ r so read on next wrote over is =
-    record {
-      inside = omega (arith, left-inside rules c buf end inside out out′ r (so .listed));
-      short = λ e. left-short rules c (take end buf) out 0 out′ r (so .listed) (more-open read (r .over) wrote (sym (is ∙ ap (λ (n : Next). onwardOf n wrote) over) ∙ e));
-    }
-
--- what holds at each turn
-pub record Ready (buf₀ out₀ buf out : List ℕ) (kept : ℕ) : Type 0 where
-  pub least : recordSize payloadLimit ≤ length buf₀
-  pub room : growth * length buf₀ ≤ length out₀
-  pub input : length buf ≡ length buf₀
-  pub output : length out ≡ length out₀
-  pub short : kept < recordSize payloadLimit
-
-pub starts : (buf out : List ℕ) → recordSize payloadLimit ≤ length buf → growth * length buf ≤ length out → Ready buf out buf out 0
-starts buf out least room = record { least = least; room = room; input = refl; output = refl; short = omega arith }
-
--- a read and a turn later: the buffer after the read is `read`
-pub goes-on : (buf₀ out₀ buf out : List ℕ) (kept : ℕ) → Ready buf₀ out₀ buf out kept → (read buf′ out′ : List ℕ) (r : State)
-    → Turned read r → r .next ≡ More → length read ≡ length buf → length buf′ ≡ length read → length out′ ≡ length out
-    → Ready buf₀ out₀ buf′ out′ (r .kept)
-goes-on buf₀ out₀ buf out kept so read buf′ out′ r turned more same input output =
-    record {
-      least = so .least;
-      room = so .room;
-      input = input ∙ same ∙ so .input;
-      output = output ∙ so .output;
-      short = turned .short more;
-    }
+-- a read, the lines of what was read, and their write
+pub lists-on : (buf₀ out₀ buf out : List ℕ) (kept turns : ℕ) → Ready (recordSize payloadLimit) buf₀ out₀ buf out kept turns → (filled : Filled) → ReadOn buf kept filled → (read : List ℕ) → length read ≡ length buf
+    → (rules : Rules) (c : Counts) (buf′ out′ : List ℕ) (r : Listed) → Turns rules c read (filled .end) out buf′ out′ r → length buf′ ≡ length read → length out′ ≡ length out
+    → (next : Next) → (next ≡ More → r .over ≡ false) → (turns′ : ℕ) → TurnsLeft turns next turns′ → Ready (recordSize payloadLimit) buf₀ out₀ buf′ out′ (r .left) turns′
+lists-on buf₀ out₀ buf out kept turns so filled came read same rules c buf′ out′ r done input output next sent turns′ turned =
+    let inside : filled .end ≤ length read = omega (arith, came .inside, same) in
+    let within : r .left ≤ filled .end = left-inside rules c read (filled .end) inside out out′ r (done .listed) in
+    goes-on (recordSize payloadLimit) buf₀ out₀ buf out kept turns so read buf′ out′ (r .left) (r .over) next turns′ same input output
+    (omega (arith, inside, within)) (left-short rules c (take (filled .end) read) out 0 out′ r (done .listed)) sent turned

@@ -3,7 +3,7 @@
 use mathlib.Core.Path.{_≡_, refl, sym, ap, _∙_}
 use mathlib.Core.Bool.{Bool, true, false, cond}
 use mathlib.Core.List.{List, [], _∷_, _++_, append-assoc, append-nil, flatten}
-use Prim.Native.Nat.{ℕ}
+use Prim.Native.Nat.{ℕ, _<_}
 use native.Mathlib.Omega.{arith}
 use borrow.Author.Tests.{lt-ltb}
 use lib.Dec.{lit<}
@@ -21,10 +21,15 @@ pub record Stays {S : Type 0} (walk : Walk S) : Type 0 where
   pub text-stays : (s : S) (l f : List ℕ) (n : ℕ) → cutOf l ≡ Record n → walk .text s n (l ++ f) ≡ walk .text s n l
 
 module _ {S : Type 0} (walk : Walk S) (stays : Stays walk) where
-  -- a walk that is over cuts, whatever follows
-  over-cuts : (s : S) (l f : List ℕ) → Stopped walk s l true → anyLeft (l ++ f) ≡ true
-  over-cuts s l f (full {n} e g) = lt-ltb 0 (length (l ++ f)) (omega (arith, length-append l f, whole-at l n e .there))
-  over-cuts s l f (long e) = lt-ltb 0 (length (l ++ f)) (omega (arith, length-append l f, long-at l e .two))
+  -- a walk that is over leaves something, and so cuts, whatever follows
+  over-leaves : (s : S) (l : List ℕ) → Stopped walk s l true → 0 < length l
+  over-leaves s l (full {n} e g) = omega (arith, whole-at l n e .there)
+  over-leaves s l (long e) = omega (arith, long-at l e .two)
+
+  over-cuts : (s : S) (l f : List ℕ) → Stopped walk s l true → anyLeft l ≡ anyLeft (l ++ f)
+  over-cuts s l f so =
+      let some : 0 < length l = over-leaves s l so in
+      lt-ltb 0 (length l) some ∙ sym (lt-ltb 0 (length (l ++ f)) (omega (arith, length-append l f)))
 
   -- what becomes of some bytes and of those that follow, from what became of the former
   abbrev resumed : Walked S → List ℕ → Walked S

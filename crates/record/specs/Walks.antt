@@ -39,9 +39,9 @@ module _ {S : Type 0} where
   abbrev pub toldOf : (S → Bool → List ℕ) → Walked S → List ℕ
   toldOf closing w = w .text ++ closing (w .state) (anyLeft (w .rest))
 
-  -- the text of a piece; then the closing after `cut`, or the pieces that follow
+  -- the text of a piece; then the closing, or the pieces that follow
   abbrev pub goesOn : (S → Bool → List ℕ) → Walked S → (S → List ℕ → List ℕ) → List ℕ
-  goesOn closing w next = w .text ++ cond (w .over) (closing (w .state) true) (next (w .state) (w .rest))
+  goesOn closing w next = w .text ++ cond (w .over) (closing (w .state) (anyLeft (w .rest))) (next (w .state) (w .rest))
 
   module _ (walk : Walk S) where
     -- "A length over 1,023 .. stops", and so does a further record where none is taken any more

@@ -10,7 +10,8 @@ use Rattle.base.specs.declared.Edition.{Edition}
 use Rattle.base.specs.declared.Refusal.{Refusal}
 use Rattle.base.specs.declared.Written.{Written}
 use Rattle.base.specs.declared.Written.the-variants.{Done, Refused}
-use Rattle.base.specs.Checks.{first, refusal}
+use Rattle.base.specs.Checks.{first, refusal, Exactly}
+use Rattle.base.proofs.Exactly.{exactly, done-apart}
 use Rattle.air.specs.Air.{airBits, payloadLimit}
 use Rattle.header.specs.declared.Fields.{Fields}
 use Rattle.header.specs.Fields.{valuesOf}
@@ -18,7 +19,7 @@ use Rattle.header.specs.Writing.{firstOver, outOfRange, longPayload, writeHeade
 use Rattle.header.proofs.Refusing.{past-13}
 use Rattle.header.proofs.WrittenAir.{sent}
 use Rattle.record.specs.Records.{recordSize}
-use Rattle.record_writer.specs.Writing.{recordFrom, roomFor, writeRecordOf, RecordWritten}
+use Rattle.record_writer.specs.Writing.{recordFrom, roomFor, recordChecks, writeRecordOf, RecordWritten}
 
 -- the room asked for
 pub room-long : (n : ℕ) → payloadLimit < n → recordSize payloadLimit ≡ roomFor n
@@ -64,3 +65,9 @@ payload-fits edition f payload own air answer so e = sent edition f payload own 
 
 pub record-fits : (n room asked : ℕ) → asked ≡ roomFor n → asked ≤ room → n ≤ payloadLimit → recordSize n ≤ room
 record-fits n room asked is enough fits = rw (is, ← room-whole n fits) at enough
+
+-- "given exactly when": 13 to 15
+pub record-exactly : (edition : Edition) (f : Fields) (payload : List ℕ) (room : ℕ) (why : Refusal)
+    → Exactly (writeRecordOf edition f payload room) (Refused why) (recordChecks edition f payload room)
+unfolding writeRecordOf
+record-exactly edition f payload room why = exactly Done (Refused why) (recordChecks edition f payload room) (done-apart why)

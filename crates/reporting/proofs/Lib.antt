@@ -1,2 +1,4 @@
 pub mod Telling
+pub mod Fronts
+pub mod LineByLine
 pub mod Whole

@@ -1,23 +1,27 @@
--- However a recording is cut, and however often lines are written, what is written is the text of the whole.
+-- However a recording is cut, and however often lines are written, what is written is the text of the whole. And something is: for pieces that are accepted one after the
+-- other there is a search.
 -- Assumes nothing.
-use mathlib.Core.Path.{_≡_, refl, sym, ap, _∙_}
+use mathlib.Core.Path.{_≡_, sym, ap, _∙_}
 use mathlib.Core.List.{List, [], _∷_, _++_, append-nil}
-use Prim.Native.Nat.{ℕ}
+use Prim.Native.Nat.{ℕ, _≤_, zero-le}
 use lib.ListN.{length, take}
 use Rattle.base.specs.declared.Edition.{Edition}
 use Rattle.text.proofs.Laid.{put-front}
 use Rattle.marks.specs.declared.Mark.{Mark}
 use Rattle.marks.specs.declared.State.{State}
+use Rattle.marks.specs.Marked.{windowBits}
 use Rattle.marks.specs.Pieces.{movedOn, marksAt, freshState, allMarks, allBits}
 use Rattle.marks.proofs.Cuts.{however-cut, no-marks}
-use Rattle.marks.proofs.Runs.{marks-more}
+use Rattle.marks.proofs.Runs.{fresh-long, stays-long, marks-more}
+use Rattle.marks.proofs.Verdicts.{total-after}
 use Rattle.lines.specs.declared.Tally.{Tally}
 use Rattle.lines.specs.declared.Stop.{Stop}
-use Rattle.lines.specs.Tallies.{nothingHeard}
+use Rattle.lines.specs.Tallies.{nothingHeard, totalOf}
 use Rattle.lines.specs.Recordings.{heading, endingOf}
 use Rattle.reporting.specs.Texts.{linesOf, tallyOver, searchOf}
-use Rattle.reporting.specs.Searches.{Tells, last, more, Searches, over, taken}
+use Rattle.reporting.specs.Searches.{Tells, last, more, Searches, over, taken, AllAccepted}
 use Rattle.reporting.proofs.Telling.{lines-append, tally-append, lines-none, tally-none}
+use Rattle.reporting.proofs.LineByLine.{piece-told}
 
 -- the lines and the tally of some marks
 pub record Of (edition : Edition) (tally : Tally) (ms : List Mark) (text : List ℕ) (after : Tally) : Type 0 where
@@ -56,3 +60,20 @@ unfolding searchOf
 whole-search edition pieces text after stop searches =
     let all : Of edition nothingHeard (allMarks freshState pieces) text after = all-told edition freshState nothingHeard pieces text after searches in
     rw (all .lines, all .tallied, however-cut pieces)
+
+-- A SEARCH EXISTS for pieces that are accepted one after the other
+pub record Searched (edition : Edition) (s : State) (tally : Tally) (pieces : List (List ℕ)) : Type 0 where
+  pub text : List ℕ
+  pub after : Tally
+  pub searches : Searches edition s tally pieces text after
+
+searches-on : (edition : Edition) (s : State) (tally : Tally) (pieces : List (List ℕ)) → length (s .bits) ≡ windowBits → totalOf tally ≤ s .total → AllAccepted s pieces
+    → Searched edition s tally pieces
+searches-on edition s tally [] long few all = record { text = []; after = tally; searches = over }
+searches-on edition s tally (piece ∷ pieces) long few all =
+    let here = piece-told edition s piece tally long (all .0) few in
+    let rest = searches-on edition (movedOn s piece) (here .after) pieces (stays-long s piece long) (rw (total-after s piece) (here .few)) (all .1) in
+    record { text = here .text ++ rest .text; after = rest .after; searches = taken (all .0) (here .tells) (rest .searches) }
+
+pub a-search-exists : (edition : Edition) (pieces : List (List ℕ)) → AllAccepted freshState pieces → Searched edition freshState nothingHeard pieces
+a-search-exists edition pieces = searches-on edition freshState nothingHeard pieces fresh-long zero-le

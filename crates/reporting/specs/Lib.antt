@@ -1,3 +1,4 @@
 pub mod Texts
+pub mod Takings
 pub mod Promises
 pub mod Searches

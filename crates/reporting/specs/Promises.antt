@@ -1,4 +1,4 @@
--- For contracts inside: the next mark, a line, and the lines of some marks of a piece.
+-- For contracts inside: what opens a search, the next mark, a line, and the lines of some marks of a piece.
 -- Assumes nothing.
 use mathlib.Core.Path.{_≡_}
 use mathlib.Core.Bool.{true, false}
@@ -10,13 +10,20 @@ use Rattle.text.specs.Text.{Put}
 use Rattle.marks.specs.declared.Mark.{Mark}
 use Rattle.marks.specs.declared.State.{State}
 use Rattle.marks.specs.declared.Step.{Step}
-use Rattle.marks.specs.Pieces.{marksAt}
+use Rattle.marks.specs.Pieces.{freshState, marksAt}
 use Rattle.lines.specs.declared.Tally.{Tally}
-use Rattle.lines.specs.Tallies.{totalOf}
-use Rattle.lines.specs.Rooms.{lineRoom}
+use Rattle.lines.specs.Tallies.{nothingHeard, totalOf}
+use Rattle.lines.specs.Recordings.{heading}
 use Rattle.reporting.specs.declared.Line.{Line}
+use Rattle.reporting.specs.declared.Opened.{Opened}
 use Rattle.reporting.specs.declared.Told.{Told}
 use Rattle.reporting.specs.Texts.{markLine, linesOf, tallyMark, tallyOver}
+
+-- the heading is put at the front, no bit is taken, and nothing is heard
+pub record Opening (before after : List ℕ) (r : Opened) : Type 0 where
+  pub state-is : r .state ≡ freshState
+  pub tally-is : r .tally ≡ nothingHeard
+  pub line : Put before 0 heading after (r .to)
 
 -- the next mark from `at` on: the first of those that are left, which ends past `at`; or none is left
 pub record NextMark (s : State) (piece : List ℕ) (at : ℕ) (step : Step) : Type 0 where

@@ -1,7 +1,7 @@
 -- For statements on whole searches: what a program writes that puts the lines of a piece a buffer at a time, piece after piece.
 -- Assumes nothing.
 use mathlib.Core.Path.{_≡_}
-use mathlib.Core.Bool.{true, false}
+use mathlib.Core.Bool.{true}
 use mathlib.Core.List.{List, [], _∷_, _++_}
 use Prim.Native.Nat.{ℕ}
 use lib.ListN.{take}
@@ -26,3 +26,8 @@ pub data Searches (edition : Edition) : State → Tally → List (List ℕ) → 
   over : {s : State} {tally : Tally} → Searches edition s tally [] [] tally
   taken : {s : State} {tally between after : Tally} {piece : List ℕ} {pieces : List (List ℕ)} {text rest : List ℕ} → verdictOf (s .total) piece ≡ Accepted
       → Tells edition s piece 0 tally text between → Searches edition (movedOn s piece) between pieces rest after → Searches edition s tally (piece ∷ pieces) (text ++ rest) after
+
+-- pieces that are accepted one after the other
+abbrev pub AllAccepted : State → List (List ℕ) → Type 0
+AllAccepted s [] = Unit {0}
+AllAccepted s (piece ∷ pieces) = (verdictOf (s .total) piece ≡ Accepted) × AllAccepted (movedOn s piece) pieces

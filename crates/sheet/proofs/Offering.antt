@@ -19,7 +19,7 @@ use Rattle.base.proofs.Numbers.{placed}
 use Rattle.base.proofs.Tests.{lt-or-ge}
 use Rattle.air.specs.Air.{wordCount}
 use Rattle.air.specs.Flips.{mostFlips}
-use Rattle.sign.specs.Calls.{Call, callOf, looksAt}
+use Rattle.sign.specs.Calls.{Call}
 use Rattle.header.specs.declared.Header.{Header}
 use Rattle.header.specs.declared.Read.{Read}
 use Rattle.header.specs.declared.Rules.{Rules}
@@ -27,7 +27,7 @@ use Rattle.header.specs.declared.Answer.{Answer}
 use Rattle.header.specs.declared.Answer.the-variants.{Accepted, Refused}
 use Rattle.header.specs.Patterns.{beside, patternsOf}
 use Rattle.header.proofs.Beside.{beside-answer}
-use Rattle.frame.specs.Frames.{Frame, signedFrame, frameWith, frameNumbers, frameOf, frameRead}
+use Rattle.frame.specs.Frames.{Frame, frameWith, frameNumbers, frameOf, frameRead}
 use Rattle.frame.proofs.Bounds.{frame-source, frame-number, frame-flips}
 use Rattle.frame.proofs.Rules.{frame-first, frame-read-is, frame-answer}
 use Rattle.sheet.specs.declared.Source.{Source}
@@ -35,7 +35,7 @@ use Rattle.sheet.specs.declared.Sheet.{Sheet}
 use Rattle.sheet.specs.declared.Offered.{Offered}
 use Rattle.sheet.specs.Records.{addOf}
 use Rattle.sheet.specs.Lanes.{silent, recordOf, hearOf}
-use Rattle.sheet.specs.Sheets.{recordsOf, counted, refusalCounts, slotOf, newSheet, sourceAt, acceptOf, countsAfter, countedOf, heardOf, fullSheet, fullOf, sameEdition, editionOf, offerAnswer, takenOf, offerOf}
+use Rattle.sheet.specs.Sheets.{recordsOf, counted, countedAt, refusalCounts, slotOf, newSheet, sourceAt, acceptOf, countsAfter, countedOf, heardOf, fullSheet, fullOf, sameEdition, editionOf, offerAnswer, takenOf, offerOf}
 
 -- a sheet that was offered nothing
 pub starts-new : (own : Edition) (s : Source) → s ≡ silent → record { sources = replicate (recordsOf own) s; refusals = replicate refusalCounts 0 } ≡ newSheet own
@@ -49,7 +49,7 @@ accepts sheet h flips changed is = rw is
 -- THE SLOT OF A NUMBER: the numbers before k are others
 module _ (number : ℕ) where
   abbrev isNumber : ℕ → Bool
-  isNumber k = eqb number (getD counted k 0)
+  isNumber k = eqb number (countedAt k)
 
   abbrev pub Looked : ℕ → Type 0
   Looked k = Passed refusalCounts isNumber k
@@ -58,12 +58,12 @@ module _ (number : ℕ) where
   look-starts = starts refusalCounts isNumber
 
   module _ (k : ℕ) (so : Looked k) where
-    pub look-goes-on : k < refusalCounts → (number ≡ getD counted k 0 → ⊥) → Looked (k + 1)
-    look-goes-on h other = goes-on refusalCounts isNumber k so h (ne-eqb number (getD counted k 0) other)
+    pub look-goes-on : k < refusalCounts → (number ≡ countedAt k → ⊥) → Looked (k + 1)
+    look-goes-on h other = goes-on refusalCounts isNumber k so h (ne-eqb number (countedAt k) other)
 
-    pub look-stops : k < refusalCounts → number ≡ getD counted k 0 → k ≡ slotOf number
+    pub look-stops : k < refusalCounts → number ≡ countedAt k → k ≡ slotOf number
     unfolding slotOf
-    look-stops h same = stops refusalCounts isNumber k so h (eq-eqb number (getD counted k 0) same)
+    look-stops h same = stops refusalCounts isNumber k so h (eq-eqb number (countedAt k) same)
 
     pub look-ends : refusalCounts ≤ k → k ≡ slotOf number
     unfolding slotOf
@@ -204,8 +204,3 @@ asGiven offered = offered
 -- the edition that was found to be the sheet's
 pub mine : (own edition : Edition) (same : Bool) → same ≡ sameEdition edition own → same ≡ true → edition ≡ own
 mine own edition same compared taken = same-is edition own (sym compared ∙ taken)
-
--- call sign bits, looked at where the edition says so
-pub as-looked-at : (own : Edition) (sheet : Sheet) (rules : Rules) (looked : Bool) (call air payload : List ℕ) (r : Offered) → looked ≡ looksAt (rules .edition)
-    → r ≡ offerOf own sheet (frameWith rules (callOf looked call) air payload) → r ≡ offerOf own sheet (signedFrame rules call air payload)
-as-looked-at own sheet rules looked call air payload r is e = rw is at e

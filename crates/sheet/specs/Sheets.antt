@@ -36,6 +36,10 @@ counted = 1 ∷ 2 ∷ 3 ∷ 4 ∷ 5 ∷ 6 ∷ 7 ∷ 8 ∷ 20 ∷ 21 ∷ 23 ∷ 2
 abbrev pub refusalCounts : ℕ
 refusalCounts = length counted
 
+-- the number that count k is of; 0 where there is none
+abbrev pub countedAt : ℕ → ℕ
+countedAt k = getD counted k 0
+
 -- the place of a number's count; past the last where it is not counted
 unfoldable pub slotOf : ℕ → ℕ
 slotOf number = placeIn counted number

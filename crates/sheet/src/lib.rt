@@ -46,7 +46,7 @@ ghost use Rattle.sheet.specs.Lanes.{lanes, silent, hearOf, framesOf, rep
 ghost use Rattle.header.specs.Patterns.{beside};
 ghost use Rattle.sign.specs.Calls.{callOf};
 ghost use Rattle.frame.specs.Frames.{frame, signedFrame, frameWith};
-ghost use Rattle.sheet.specs.Sheets.{recordsOf, counted, refusalCounts, slotOf, newSheet, acceptOf, countsAfter, sameEdition, acceptedOf, refusedOf, heardOf, fullSheet, fullOf, offerOf, displayOf};
+ghost use Rattle.sheet.specs.Sheets.{recordsOf, countedAt, refusalCounts, slotOf, newSheet, acceptOf, countsAfter, sameEdition, acceptedOf, refusedOf, heardOf, fullSheet, fullOf, offerOf, displayOf};
 
 // The records of a sheet of the flown edition: one for each SrcId that is not refused.
 pub const RECORDS: usize = header::LAST_FLOWN_SOURCE as usize + 1;
@@ -226,11 +226,13 @@ fn accept(sheet: Sheet, header: Header, flips: u32) -> Sheet
     after
 }
 
-// The number that count k is of.
+// The number that count k is of; 0 where there is no such count.
 pub fn counted_number(k: usize) -> u8
-    requires { ⌜ k < refusalCounts ⌝ }
-    ensures { λ r. ⌜ r ≡ getD counted k 0 ⌝ }
+    ensures { λ r. ⌜ r ≡ countedAt k ⌝ }
 {
+    if REFUSAL_COUNTS <= k {
+        return 0;
+    }
     COUNTED[k]
 }
 
@@ -381,12 +383,12 @@ fn not_taken(number: u8, place: usize) -> Read
 }
 
 // A frame of the sheet's edition offered to a sheet that is not full, by a lent copy of the syndrome table: the frame's own answer,
-// counted. `looked` says whether call sign bits are looked at, and `call` which.
+// counted. `given` says whether call sign bits are given, and `call` which.
 fn take_in(
     table: &[u16; TABLE_ROWS],
     sheet: Sheet,
     rules: Rules,
-    looked: bool,
+    given: bool,
     call: &[u8],
     air: &[u8],
     payload: &[u8],
@@ -394,9 +396,9 @@ fn take_in(
     requires { ⌜ now table ≡ syndromes ⌝ }
     requires { ⌜ heardOf Edition.Flown sheet < fullSheet ⌝ }
     requires { ⌜ rules .edition ≡ Edition.Flown ⌝ }
-    ensures { λ r. ⌜ r ≡ offerOf Edition.Flown sheet (frameWith rules (callOf looked (now (call .entry))) (now (air .entry)) (now (payload .entry))) ⌝ }
+    ensures { λ r. ⌜ r ≡ offerOf Edition.Flown sheet (frameWith rules (callOf given (now (call .entry))) (now (air .entry)) (now (payload .entry))) ⌝ }
 {
-    let read = frame::read_frame_with(table, rules, looked, call, air, payload);
+    let read = frame::read_frame_with(table, rules, given, call, air, payload);
     let answer = read.answer;
     match answer {
         Answer::Accepted { header, flips } => {
@@ -413,16 +415,16 @@ fn take_in(
     }
 }
 
-// A frame offered to any sheet, with call sign bits that are looked at or not.
+// A frame offered to any sheet, with call sign bits that are given or not.
 fn offer_with(
     sheet: Sheet,
     rules: Rules,
-    looked: bool,
+    given: bool,
     call: &[u8],
     air: &[u8],
     payload: &[u8],
 ) -> Offered
-    ensures { λ r. ⌜ r ≡ offerOf Edition.Flown sheet (frameWith rules (callOf looked (now (call .entry))) (now (air .entry)) (now (payload .entry))) ⌝ }
+    ensures { λ r. ⌜ r ≡ offerOf Edition.Flown sheet (frameWith rules (callOf given (now (call .entry))) (now (air .entry)) (now (payload .entry))) ⌝ }
 {
     if full(sheet) {
         let read = not_taken(SHEET_FULL, FULL as usize);
@@ -431,7 +433,7 @@ fn offer_with(
     let edition = rules.edition;
     if same(edition, Edition::Flown) {
         let table = word::table::whole();
-        return take_in(&table, sheet, rules, looked, call, air, payload);
+        return take_in(&table, sheet, rules, given, call, air, payload);
     }
     let read = not_taken(OTHER_EDITION, 0);
     Offered { read, sheet }
@@ -450,6 +452,5 @@ pub fn offer(sheet: Sheet, rules: Rules, air: &[u8], payload: &[u8]) -> Offered
 pub fn offer_signed(sheet: Sheet, rules: Rules, call: &[u8], air: &[u8], payload: &[u8]) -> Offered
     ensures { λ r. ⌜ r ≡ offerOf Edition.Flown sheet (signedFrame rules (now (call .entry)) (now (air .entry)) (now (payload .entry))) ⌝ }
 {
-    let named = rules.edition;
-    offer_with(sheet, rules, sign::looks_at(named), call, air, payload)
+    offer_with(sheet, rules, true, call, air, payload)
 }

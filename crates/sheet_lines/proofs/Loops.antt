@@ -10,7 +10,7 @@ use Rattle.base.specs.declared.Edition.{Edition}
 use Rattle.base.specs.declared.Edition.the-variants.{Flown, Corrected}
 use Rattle.sheet.specs.declared.wide.WideSheet.{WideSheet}
 use Rattle.sheet.specs.Lanes.{silent, sourceIn}
-use Rattle.sheet.specs.Sheets.{recordsOf, counted, refusalCounts}
+use Rattle.sheet.specs.Sheets.{recordsOf, countedAt, refusalCounts}
 use Rattle.sheet_lines.specs.Lines.{heardLine, givenLine, sourceLines, refusalLines}
 use Rattle.sheet_lines.specs.Rooms.{sourceRoom, refusalRoom, mostRecords}
 use Rattle.sheet_lines.proofs.Joining.{Joining, join-starts, join-room, join-goes-on, join-ends, join-short}
@@ -54,7 +54,7 @@ module _ (edition : Edition) (sheet : WideSheet) (records : ℕ) where
 
 module _ (counts : List ℕ) where
   abbrev givenAt : ℕ → List ℕ
-  givenAt k = givenLine (getD counted k 0) (getD counts k 0)
+  givenAt k = givenLine (countedAt k) (getD counts k 0)
 
   -- the counts below k have their lines
   pub record Given (before : List ℕ) (at : ℕ) (out : List ℕ) (to k : ℕ) : Type 0 where
@@ -67,7 +67,7 @@ module _ (counts : List ℕ) where
     pub given-room : k < refusalCounts → to + refusalRoom ≤ length out
     given-room h = join-room refusalCounts refusalRoom givenAt l at out to k (so .joining) h
 
-    pub given-goes-on : k < refusalCounts → (number : ℕ) → number ≡ getD counted k 0 → (after : List ℕ) (next : ℕ)
+    pub given-goes-on : k < refusalCounts → (number : ℕ) → number ≡ countedAt k → (after : List ℕ) (next : ℕ)
         → Put out to (givenLine number (getD counts k 0)) after next → next ≤ to + refusalRoom → Given l at after next (k + 1)
     given-goes-on h number is after next one short = record { joining = join-goes-on refusalCounts refusalRoom givenAt l at out to k (so .joining) h after next (rw is at one) short }
 

@@ -13,7 +13,7 @@ use Rattle.sheet.specs.declared.Lane.{Lane}
 use Rattle.sheet.specs.declared.Source.{Source}
 use Rattle.sheet.specs.declared.Sheet.{Sheet}
 use Rattle.sheet.specs.Lanes.{sourceIn, framesOf, repairedOf}
-use Rattle.sheet.specs.Sheets.{recordsOf, counted, refusalCounts}
+use Rattle.sheet.specs.Sheets.{recordsOf, countedAt, refusalCounts}
 
 -- the first line
 unfoldable pub totalsTitle : List ℕ
@@ -65,7 +65,7 @@ abbrev pub sourceLines : Edition → List Source → List ℕ
 sourceLines edition sources = joinTo (recordsOf edition) (λ k. heardLine edition k (sourceIn sources k))
 
 abbrev pub refusalLines : List ℕ → List ℕ
-refusalLines counts = joinTo refusalCounts (λ k. givenLine (getD counted k 0) (getD counts k 0))
+refusalLines counts = joinTo refusalCounts (λ k. givenLine (countedAt k) (getD counts k 0))
 
 unfoldable pub sheetLines : Edition → Sheet → List ℕ
 sheetLines edition sheet = sourceLines edition (sheet .sources) ++ refusalLines (sheet .refusals)

@@ -1,4 +1,4 @@
--- The program's turns: the buffer keeps its length, and there is room to read on.
+-- A read, and the records of what was read counted: what is left is within what was read, and less than a record where the sheet is not over.
 -- Assumes nothing.
 use mathlib.Core.Path.{_≡_, refl, sym, _∙_}
 use mathlib.Core.List.{List}
@@ -10,36 +10,21 @@ use Rattle.header.specs.declared.Rules.{Rules}
 use Rattle.sheet.specs.declared.wide.WideSheet.{WideSheet}
 use Rattle.lines.specs.declared.Tally.{Tally}
 use Rattle.record.specs.Records.{recordSize}
+use Rattle.streams.specs.declared.Filled.{Filled}
 use Rattle.streams.specs.declared.Next.{Next}
-use Rattle.streams.specs.declared.Next.the-variants.{More}
-use Rattle.streams.specs.Turns.{readOn}
+use Rattle.streams.specs.Turns.{ReadOn, readOn, TurnsLeft}
 use Rattle.streams.proofs.Reading.{read-open}
-use Rattle.sheet_lines.specs.Rooms.{totalsRoom}
+use Rattle.streams.proofs.Rounds.{Ready, goes-on}
 use Rattle.sheet_listing.specs.declared.Counted.{Counted}
 use Rattle.sheet_listing.specs.Promises.{Turns}
-use Rattle.sheet_listing.proofs.Keeping.{left-short}
-use Rattle.sheet_list.specs.declared.State.{State}
-use Rattle.sheet_list.specs.Turns.{Turned}
+use Rattle.sheet_listing.proofs.Keeping.{left-inside, left-short}
 
--- what a turn leaves
-pub turn-leaves : (rules : Rules) (start : WideSheet) (tally : Tally) (buf : List ℕ) (end : ℕ) (buf′ : List ℕ) (r : Counted) → Turns rules start tally buf end buf′ r
-    → (read next : Next) → next ≡ readOn read (r .over) → Turned (record { sheet = r .sheet; tally = r .tally; kept = r .left; next = next })
-turn-leaves rules start tally buf end buf′ r so read next is =
-    record { short = λ e. left-short rules start tally (take end buf) r (so .walked) (read-open read (r .over) (sym is ∙ e)) }
-
--- what holds at each turn: nothing is put into the buffer for the text before the input has ended
-pub record Ready (buf₀ out₀ buf out : List ℕ) (kept : ℕ) : Type 0 where
-  pub least : recordSize payloadLimit ≤ length buf₀
-  pub room : totalsRoom ≤ length out₀
-  pub input : length buf ≡ length buf₀
-  pub output : length out ≡ length out₀
-  pub short : kept < recordSize payloadLimit
-
-pub starts : (buf out : List ℕ) → recordSize payloadLimit ≤ length buf → totalsRoom ≤ length out → Ready buf out buf out 0
-starts buf out least room = record { least = least; room = room; input = refl; output = refl; short = omega arith }
-
--- a read and a turn later: the buffer after the read is `read`
-pub goes-on : (buf₀ out₀ buf out : List ℕ) (kept : ℕ) → Ready buf₀ out₀ buf out kept → (read buf′ : List ℕ) (r : State) → Turned r → r .next ≡ More
-    → length read ≡ length buf → length buf′ ≡ length read → Ready buf₀ out₀ buf′ out (r .kept)
-goes-on buf₀ out₀ buf out kept so read buf′ r turned more same input =
-    record { least = so .least; room = so .room; input = input ∙ same ∙ so .input; output = so .output; short = turned .short more }
+pub counts-on : (buf₀ out₀ buf out : List ℕ) (kept turns : ℕ) → Ready (recordSize payloadLimit) buf₀ out₀ buf out kept turns → (read : List ℕ) → length read ≡ length buf
+    → (filled : Filled) → ReadOn buf kept filled → (rules : Rules) (start : WideSheet) (tally : Tally) (buf′ : List ℕ) (r : Counted) → Turns rules start tally read (filled .end) buf′ r
+    → length buf′ ≡ length read → (next : Next) → next ≡ readOn (filled .next) (r .over) → (turns′ : ℕ) → TurnsLeft turns next turns′
+    → Ready (recordSize payloadLimit) buf₀ out₀ buf′ out (r .left) turns′
+counts-on buf₀ out₀ buf out kept turns so read same filled was rules start tally buf′ r done input next on turns′ turned =
+    let inside : filled .end ≤ length read = omega (arith, was .inside) in
+    goes-on (recordSize payloadLimit) buf₀ out₀ buf out kept turns so read buf′ out (r .left) (r .over) next turns′ same input refl
+    (omega (arith, left-inside rules start tally read (filled .end) inside r (done .walked)))
+    (left-short rules start tally (take (filled .end) read) r (done .walked)) (λ more. read-open (filled .next) (r .over) (sym on ∙ more)) turned

@@ -6,3 +6,4 @@ pub mod Grown
 pub mod SheetText
 pub mod Taking
 pub mod Changing
+pub mod Opening

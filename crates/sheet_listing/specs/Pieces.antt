@@ -1,6 +1,6 @@
 -- What is written for an input that comes in pieces: each piece's frames are counted, and what is left of it is kept for the next.
 -- Assumes nothing.
-use mathlib.Core.Bool.{true, cond}
+use mathlib.Core.Bool.{cond}
 use mathlib.Core.List.{List, [], _∷_, _++_}
 use Prim.Native.Nat.{ℕ, _-_}
 use lib.ListN.{take}
@@ -30,7 +30,7 @@ module _ (rules : Rules) where
 
   -- where the listing is over, "`cut`, then the last line .. and stops"; else the pieces that follow
   abbrev pub countsOn : Sheet → Scan → (Tally → List ℕ → List ℕ) → List ℕ
-  countsOn sheet s next = cond (s .over) (totalsOf (rules .edition) sheet (s .tally) true) (next (s .tally) (s .rest))
+  countsOn sheet s next = cond (s .over) (totalsOf (rules .edition) sheet (s .tally) (anyLeft (s .rest))) (next (s .tally) (s .rest))
 
   abbrev pub fedTo : Sheet → Tally → List ℕ → List (List ℕ) → List ℕ
   fedTo sheet tally kept [] = totalsOf (rules .edition) sheet tally (anyLeft kept)

@@ -4,6 +4,7 @@ use mathlib.Core.Path.{_≡_}
 use mathlib.Core.List.{List}
 use Prim.Native.Nat.{ℕ, _-_}
 use lib.ListN.{length, take}
+use Rattle.text.specs.Text.{Put}
 use Rattle.header.specs.declared.Rules.{Rules}
 use Rattle.header.specs.declared.Answer.{Answer}
 use Rattle.header.specs.declared.Answer.the-variants.{Accepted, Refused}
@@ -15,10 +16,13 @@ use Rattle.sheet.specs.Lanes.{recordOf, hearOf}
 use Rattle.sheet.specs.Sheets.{countsAfter}
 use Rattle.sheet.specs.Wide.{held}
 use Rattle.lines.specs.declared.Tally.{Tally}
+use Rattle.lines.specs.Tallies.{nothingHeard}
 use Rattle.listing.specs.Listing.{frameIn, tallyIn, scanOf}
+use Rattle.sheet_lines.specs.Lines.{totalsTitle}
+use Rattle.sheet_listing.specs.declared.Opened.{Opened}
 use Rattle.sheet_listing.specs.declared.Taken.{Taken}
 use Rattle.sheet_listing.specs.declared.Counted.{Counted}
-use Rattle.sheet_listing.specs.Pieces.{sheetAfter}
+use Rattle.sheet_listing.specs.Pieces.{blankSheet, sheetAfter}
 
 -- the place of the record that an answer may change, that record after it, and the counts of refusals after it: an accepted frame changes its
 -- source's record, a refused one a count
@@ -33,6 +37,12 @@ heardBy source (Refused why) = source
 abbrev pub refusedBy : List ℕ → Answer → List ℕ
 refusedBy counts (Accepted h flips) = counts
 refusedBy counts (Refused why) = countsAfter counts (why .number)
+
+-- a sheet was opened: it starts with nothing counted, after its title
+pub record Opens (before after : List ℕ) (r : Opened) : Type 0 where
+  pub sheet-is : held (r .sheet) ≡ blankSheet
+  pub tally-is : r .tally ≡ nothingHeard
+  pub line : Put before 0 totalsTitle after (r .to)
 
 -- a record with n payload bytes was read: its answer, and the tally after it
 pub record Takes (rules : Rules) (tally : Tally) (l : List ℕ) (n : ℕ) (r : Taken) : Type 0 where

@@ -1,6 +1,6 @@
 -- Call sign bits that agree with a satellite's: what the tests of rows 23 and 24 say, and the loop behind the second.
 -- Assumes nothing.
-use mathlib.Core.Path.{_≡_, refl, sym, _∙_}
+use mathlib.Core.Path.{_≡_, refl, sym, ap, _∙_}
 use mathlib.Core.Bool.{Bool, true, false, not}
 use mathlib.Core.List.{List}
 use Prim.Native.Nat.{ℕ, _+_, _≤_, _<_}
@@ -9,13 +9,15 @@ use native.Mathlib.Omega.{arith}
 use lib.Dec.{eqb, lit<}
 use lib.ListN.{length, getD, List·getD-eq-default}
 use borrow.Author.Tests.{eq-eqb, ne-eqb, eqb-true, eqb-false, not-false}
+use Rattle.base.specs.declared.Edition.{Edition}
+use Rattle.base.specs.declared.Edition.the-variants.{Flown, Corrected}
 use Rattle.base.specs.Lists.{lowest}
 use Rattle.base.proofs.Tabulate.{tabulate-length, tabulate-at, tabulate-is, tabulate-all}
 use Rattle.base.proofs.Lowest.{Passed, starts, goes-on, stops, ends, lowest-is, lowest-none}
 use Rattle.air.specs.Air.{firstNoBit}
 use Rattle.air.proofs.Bits.{no-bit-none}
 use Rattle.sign.specs.CallSigns.{callSign, signBit, signWidth, signOf}
-use Rattle.sign.specs.Calls.{Call, absent, given, callOf, faultAt, firstOther, otherAt, Agrees}
+use Rattle.sign.specs.Calls.{Call, absent, given, callOf, looksAt, lookedAt, faultAt, firstOther, otherAt, Agrees}
 
 pub past-end : (call : List ℕ) (n : ℕ) → length call ≤ n → 0 ≡ getD call n 0
 past-end call n h = sym (List·getD-eq-default call 0 {n = n} h)
@@ -66,16 +68,33 @@ pub sign-bits : (satellite k : ℕ) → getD (signOf satellite) k 0 < 2
 unfolding signOf signBit
 sign-bits satellite k = tabulate-all (λ x. x < 2) (signBit satellite) signWidth (lit< tt) (λ n h. mod-lt _ (lit< tt)) k
 
--- row 23's place, as the code finds it
-pub no-bit-at : (looked : Bool) (call : List ℕ) (at : ℕ) → looked ≡ true → length call ≡ signWidth → at ≡ firstNoBit call → at ≡ faultAt (callOf looked call)
-no-bit-at looked call at so long is = is ∙ rw (so, eq-eqb (length call) signWidth long)
+-- what the code asks of bits that are there or not
+looked-as : (edition : Edition) (there : Bool) (call : List ℕ) → lookedAt edition (callOf there call) ≡ callOf (looksAt edition there) call
+looked-as Flown true call = refl
+looked-as Flown false call = refl
+looked-as Corrected true call = refl
+looked-as Corrected false call = refl
 
-pub other-length : (looked : Bool) (call : List ℕ) → looked ≡ true → (length call ≡ signWidth → ⊥) → length call ≡ faultAt (callOf looked call)
-other-length looked call so differs = rw (so, ne-eqb (length call) signWidth differs)
+module _ (edition : Edition) (there looked : Bool) (asked : looked ≡ looksAt edition there) (call : List ℕ) where
+  looked-is : (told : Bool) → looked ≡ told → lookedAt edition (callOf there call) ≡ callOf told call
+  looked-is told so = looked-as edition there call ∙ ap (λ (b : Bool). callOf b call) (sym asked ∙ so)
 
--- row 24's test
-pub other-found : (looked : Bool) (call : List ℕ) (satellite at : ℕ) → looked ≡ true → at ≡ firstOther call satellite → at ≡ otherAt (callOf looked call) satellite
-other-found looked call satellite at so is = is ∙ rw so
+  -- row 23's place, as the code finds it
+  pub no-bit-at : looked ≡ true → length call ≡ signWidth → (at : ℕ) → at ≡ firstNoBit call → at ≡ faultAt (lookedAt edition (callOf there call))
+  no-bit-at so long at is = is ∙ rw (looked-is true so, eq-eqb (length call) signWidth long)
+
+  pub other-length : looked ≡ true → (length call ≡ signWidth → ⊥) → length call ≡ faultAt (lookedAt edition (callOf there call))
+  other-length so differs = rw (looked-is true so, ne-eqb (length call) signWidth differs)
+
+  pub no-fault-at : looked ≡ false → signWidth ≡ faultAt (lookedAt edition (callOf there call))
+  no-fault-at so = rw (looked-is false so)
+
+  -- row 24's test
+  pub other-found : looked ≡ true → (satellite at : ℕ) → at ≡ firstOther call satellite → at ≡ otherAt (lookedAt edition (callOf there call)) satellite
+  other-found so satellite at is = is ∙ rw (looked-is true so)
+
+  pub no-other-at : looked ≡ false → (satellite : ℕ) → signWidth ≡ otherAt (lookedAt edition (callOf there call)) satellite
+  no-other-at so satellite = rw (looked-is false so)
 
 -- WHAT THE TESTS OF ROWS 23 AND 24 SAY: together, that the call sign agrees where it is looked at
 pub tests-agree : (call : Call) (satellite : ℕ) → faultAt call ≡ signWidth → signWidth ≤ otherAt call satellite → Agrees call satellite

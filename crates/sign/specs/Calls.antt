@@ -12,7 +12,7 @@ use Rattle.base.specs.Lists.{lowest}
 use Rattle.air.specs.Air.{firstNoBit}
 use Rattle.sign.specs.CallSigns.{signBit, signWidth, signOf}
 
--- "Uploads often include the 48 call sign bits": what of them is looked at
+-- "Uploads often include the 48 call sign bits": what was given of them
 pub data Call : Type 0 where
   absent : Call
   given : List ℕ → Call
@@ -22,12 +22,14 @@ callOf true call = given call
 callOf false call = absent
 
 -- "When given under the flown edition"; "under the corrected edition they aren't looked at"
-abbrev pub looksAt : Edition → Bool
-looksAt Flown = true
-looksAt Corrected = false
+abbrev pub looksAt : Edition → Bool → Bool
+looksAt Flown there = there
+looksAt Corrected there = false
 
-abbrev pub lookedAt : Edition → List ℕ → Call
-lookedAt edition call = callOf (looksAt edition) call
+-- what is looked at of what was given
+abbrev pub lookedAt : Edition → Call → Call
+lookedAt edition absent = absent
+lookedAt edition (given call) = callOf (looksAt edition true) call
 
 -- "not 48 elements or one above 1 .. (place: the length, or the first bad index)"; 48 where neither is so
 abbrev pub faultAt : Call → ℕ

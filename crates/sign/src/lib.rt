@@ -3,7 +3,7 @@ use base::Edition;
 ghost use mathlib.Core.Path.{_≡_};
 ghost use lib.ListN.{getD};
 ghost use Rattle.sign.specs.CallSigns.{callSign, signBit, signOf};
-ghost use Rattle.sign.specs.Calls.{callOf, looksAt, faultAt, firstOther, otherAt};
+ghost use Rattle.sign.specs.Calls.{callOf, looksAt, lookedAt, faultAt, firstOther, otherAt};
 
 // The bits of a call sign.
 pub const SIGN_BITS: usize = 48;
@@ -52,22 +52,22 @@ pub fn call_sign(satellite: u8) -> [u8; SIGN_BITS]
     bits
 }
 
-// Whether call sign bits that are given are looked at.
-pub fn looks_at(edition: Edition) -> bool
-    ensures { λ r. ⌜ r ≡ looksAt edition ⌝ }
+// Whether call sign bits, which are given or not, are looked at.
+pub fn looks_at(edition: Edition, given: bool) -> bool
+    ensures { λ r. ⌜ r ≡ looksAt edition given ⌝ }
 {
     match edition {
-        Edition::Flown => true,
+        Edition::Flown => given,
         Edition::Corrected => false,
     }
 }
 
 // Where call sign bits that are looked at are none: at their length where that is not 48, or else at the lowest element above 1. 48
-// where nothing is wrong, or they are not looked at.
-pub fn fault_at(looked: bool, call: &[u8]) -> usize
-    ensures { λ r. ⌜ r ≡ faultAt (callOf looked (now (call .entry))) ⌝ }
+// where nothing is wrong, or they are not looked at. `given` says whether there are any, and `call` which.
+pub fn fault_at(edition: Edition, given: bool, call: &[u8]) -> usize
+    ensures { λ r. ⌜ r ≡ faultAt (lookedAt edition (callOf given (now (call .entry)))) ⌝ }
 {
-    if looked {
+    if looks_at(edition, given) {
         let n = call.len();
         if n == SIGN_BITS {
             return air::first_no_bit(call);
@@ -102,10 +102,10 @@ fn first_other(call: &[u8], satellite: u8) -> usize
 }
 
 // Where call sign bits that are looked at differ from a satellite's: the lowest place. 48 where they agree, or are not looked at.
-pub fn other_at(looked: bool, call: &[u8], satellite: u8) -> usize
-    ensures { λ r. ⌜ r ≡ otherAt (callOf looked (now (call .entry))) satellite ⌝ }
+pub fn other_at(edition: Edition, given: bool, call: &[u8], satellite: u8) -> usize
+    ensures { λ r. ⌜ r ≡ otherAt (lookedAt edition (callOf given (now (call .entry)))) satellite ⌝ }
 {
-    if looked {
+    if looks_at(edition, given) {
         return first_other(call, satellite);
     }
     SIGN_BITS

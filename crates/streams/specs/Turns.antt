@@ -1,7 +1,7 @@
 -- What a read leaves, and how a program goes on.
 -- Assumes nothing.
 use mathlib.Core.Path.{_≡_}
-use mathlib.Core.Bool.{Bool, cond}
+use mathlib.Core.Bool.{Bool, true, false, cond}
 use mathlib.Core.List.{List}
 use Prim.Native.Nat.{ℕ, _<_, _≤_}
 use lib.ListN.{length}
@@ -23,3 +23,14 @@ readOn Failed over = Failed
 -- how to go on after a read and the write that follows it
 abbrev pub onwardOf : Next → Bool → Next
 onwardOf read wrote = cond wrote read Failed
+
+-- whether all that is wanted has come and was written
+abbrev pub doneOf : Next → Bool
+doneOf More = false
+doneOf Done = true
+doneOf Failed = false
+
+-- the turns that are left after one: fewer, and none unless there is more to read
+pub record TurnsLeft (turns : ℕ) (next : Next) (r : ℕ) : Type 0 where
+  pub fewer : r < turns
+  pub more : 0 < r → next ≡ More

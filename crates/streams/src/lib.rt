@@ -2,9 +2,11 @@
 use libc::STDIN_FILENO;
 use libc::STDOUT_FILENO;
 ghost use mathlib.Core.Path.{_≡_};
-ghost use Prim.Native.Nat.{_<_, _≤_};
+ghost use mathlib.Core.Bool.{false};
+ghost use Prim.Native.Nat.{_+_, _-_, _%_, _^_, _<_, _≤_};
 ghost use lib.ListN.{length};
-ghost use Rattle.streams.specs.Turns.{ReadOn, readOn, onwardOf};
+ghost use Rattle.streams.specs.declared.Next.the-variants.{More};
+ghost use Rattle.streams.specs.Turns.{ReadOn, readOn, onwardOf, doneOf, TurnsLeft};
 
 // How to go on.
 pub enum Next {
@@ -81,9 +83,21 @@ pub struct Counted {
     pub next: Next,
 }
 
-// Reads an input that has filled the buffer to its end, and counts all of it.
+// A length and some bytes more, as far as a number goes.
+fn longer(size: usize, more: usize) -> usize
+    ensures { λ r. ⌜ size ≤ r ⌝ }
+{
+    let room = usize::MAX - size;
+    if room < more {
+        return usize::MAX;
+    }
+    size + more
+}
+
+// Reads an input that has filled the buffer to its end, and counts all of it: never less than the buffer.
 pub fn count_on(buf: &mut [u8]) -> Counted
     requires { ⌜ 0 < length (now buf) ⌝ }
+    ensures { λ r. ⌜ length (now (buf .entry)) ≤ r .size ⌝ }
 {
     let mut size = buf.len();
     let mut turns = u64::MAX;
@@ -99,8 +113,7 @@ pub fn count_on(buf: &mut [u8]) -> Counted
                 return Counted { size, next };
             }
         }
-        // a length past 2^64, which no input reaches, would wrap
-        size = std::num::wrapping_add_usize(size, filled.end);
+        size = longer(size, filled.end);
         turns -= 1;
     }
     Counted {
@@ -142,4 +155,46 @@ pub fn after_write(read: Next, wrote: bool) -> Next
         return read;
     }
     Next::Failed
+}
+
+// Writes the first `to` bytes, and answers how to go on, after the read before that, where what came may be all that is wanted.
+pub fn send(out: &[u8], to: usize, read: Next, over: bool) -> Next
+    requires { ⌜ to ≤ length (now out) ⌝ }
+    ensures { λ r. ⌜ (r ≡ More → over ≡ false) ⌝ }
+{
+    let wrote = write(&out[..to]);
+    after_write(after_read(read, over), wrote)
+}
+
+// Whether all that is wanted has come and was written.
+pub fn is_done(next: Next) -> bool
+    ensures { λ r. ⌜ r ≡ doneOf next ⌝ }
+{
+    match next {
+        Next::More => false,
+        Next::Done => true,
+        Next::Failed => false,
+    }
+}
+
+// The turns that are left: none, unless there is more to read.
+pub fn turns_left(turns: u64, next: Next) -> u64
+    requires { ⌜ 0 < turns ⌝ }
+    ensures { λ r. ⌜ TurnsLeft turns next r ⌝ }
+{
+    match next {
+        Next::More => turns - 1,
+        Next::Done => 0,
+        Next::Failed => 0,
+    }
+}
+
+// The place in an input of a buffer's front, where `left` of the `end` bytes in the buffer are left. A place past 2^64, which no input
+// reaches, would wrap.
+pub fn moved_on(front: u64, end: usize, left: usize) -> u64
+    requires { ⌜ left ≤ end ⌝ }
+    ensures { λ r. ⌜ r ≡ (front + (end - left)) % 2 ^ 64 ⌝ }
+{
+    let passed = end - left;
+    std::num::wrapping_add_u64(front, passed as u64)
 }

@@ -1,9 +1,9 @@
--- The program's turns: the buffers keep their lengths, and there is room to read on.
+-- The program's turns: what is left of a piece is within it, and less than a record where more is read.
 -- Assumes nothing.
-use mathlib.Core.Path.{_≡_, refl, sym, ap, _∙_}
-use mathlib.Core.Bool.{Bool}
+use mathlib.Core.Path.{_≡_}
+use mathlib.Core.Bool.{false}
 use mathlib.Core.List.{List}
-use Prim.Native.Nat.{ℕ, _*_, _<_, _≤_}
+use Prim.Native.Nat.{ℕ, _≤_}
 use native.Mathlib.Omega.{arith}
 use lib.ListN.{length, take}
 use Rattle.air.specs.Air.{payloadLimit}
@@ -11,46 +11,21 @@ use Rattle.record.specs.Records.{recordSize}
 use Rattle.unpacking.specs.declared.Unpacked.{Unpacked}
 use Rattle.unpacking.specs.Promises.{Turns}
 use Rattle.unpacking.proofs.Keeping.{left-inside, left-short}
+use Rattle.streams.specs.declared.Filled.{Filled}
 use Rattle.streams.specs.declared.Next.{Next}
 use Rattle.streams.specs.declared.Next.the-variants.{More}
-use Rattle.streams.specs.Turns.{readOn, onwardOf}
-use Rattle.streams.proofs.Reading.{more-open}
-use Rattle.unpack.specs.declared.State.{State}
-use Rattle.unpack.specs.Turns.{Turned}
+use Rattle.streams.specs.Turns.{ReadOn, TurnsLeft}
+use Rattle.streams.proofs.Rounds.{Ready, goes-on}
 
--- what is left of the bytes read is within them, and what a turn leaves
-module _ (buf : List ℕ) (end : ℕ) (in-buf : end ≤ length buf) (out buf′ out′ : List ℕ) (r : Unpacked) (so : Turns buf end out buf′ out′ r) where
-  pub left-in-read : r .left ≤ end
-  left-in-read = left-inside buf end in-buf out out′ r (so .unpacked)
+-- a read, after which the buffer is `read`, and the lines of what was read
+module _ (f : Filled) (read out buf′ out′ : List ℕ) (r : Unpacked) (so : Turns read (f .end) out buf′ out′ r)
+    (buf : List ℕ) (kept : ℕ) (filled : ReadOn buf kept f) (same : length read ≡ length buf) where
+  pub left-in-read : r .left ≤ f .end
+  left-in-read = left-inside read (f .end) (omega (arith, filled .inside)) out out′ r (so .unpacked)
 
-  pub turn-leaves : (front : ℕ) (read on next : Next) (wrote : Bool) → on ≡ readOn read (r .over) → next ≡ onwardOf on wrote
-      → Turned buf (record { front = front; kept = r .left; next = next })
-  turn-leaves front read on next wrote over is =
-      record {
-        inside = omega (arith, left-in-read);
-        short = λ e. left-short (take end buf) out 0 out′ r (so .unpacked) (more-open read (r .over) wrote (sym (is ∙ ap (λ (n : Next). onwardOf n wrote) over) ∙ e));
-      }
-
--- what holds at each turn
-pub record Ready (buf₀ out₀ buf out : List ℕ) (kept : ℕ) : Type 0 where
-  pub least : recordSize payloadLimit ≤ length buf₀
-  pub room : 2 * length buf₀ ≤ length out₀
-  pub input : length buf ≡ length buf₀
-  pub output : length out ≡ length out₀
-  pub short : kept < recordSize payloadLimit
-
-pub starts : (buf out : List ℕ) → recordSize payloadLimit ≤ length buf → 2 * length buf ≤ length out → Ready buf out buf out 0
-starts buf out least room = record { least = least; room = room; input = refl; output = refl; short = omega arith }
-
--- a read and a turn later: the buffer after the read is `read`
-pub goes-on : (buf₀ out₀ buf out : List ℕ) (kept : ℕ) → Ready buf₀ out₀ buf out kept → (read buf′ out′ : List ℕ) (r : State)
-    → Turned read r → r .next ≡ More → length read ≡ length buf → length buf′ ≡ length read → length out′ ≡ length out
-    → Ready buf₀ out₀ buf′ out′ (r .kept)
-goes-on buf₀ out₀ buf out kept so read buf′ out′ r turned more same input output =
-    record {
-      least = so .least;
-      room = so .room;
-      input = input ∙ same ∙ so .input;
-      output = output ∙ so .output;
-      short = turned .short more;
-    }
+  -- and their write
+  pub unpacks-on : (buf₀ out₀ : List ℕ) (turns : ℕ) → Ready (recordSize payloadLimit) buf₀ out₀ buf out kept turns → length buf′ ≡ length read → length out′ ≡ length out
+      → (next : Next) → (next ≡ More → r .over ≡ false) → (turns′ : ℕ) → TurnsLeft turns next turns′ → Ready (recordSize payloadLimit) buf₀ out₀ buf′ out′ (r .left) turns′
+  unpacks-on buf₀ out₀ turns ready input output next sent turns′ turned =
+      goes-on (recordSize payloadLimit) buf₀ out₀ buf out kept turns ready read buf′ out′ (r .left) (r .over) next turns′ same input output
+      (omega (arith, left-in-read, filled .inside)) (left-short (take (f .end) read) out 0 out′ r (so .unpacked)) sent turned

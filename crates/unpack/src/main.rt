@@ -2,49 +2,18 @@
 // Where bytes are left that are no record, it tells on standard error at which byte and why.
 use libc::STDERR_FILENO;
 use record::Cut;
-use streams::Filled;
-use streams::Next;
-use streams::after_read;
-use streams::after_write;
+use streams::is_done;
+use streams::moved_on;
 use streams::read_on;
-use streams::write;
-ghost use mathlib.Core.Path.{_≡_};
-ghost use Prim.Native.Nat.{_*_, _<_, _≤_};
+use streams::send;
+use streams::turns_left;
+ghost use Prim.Native.Nat.{_*_, _≤_};
 ghost use lib.ListN.{length};
 ghost use Rattle.air.specs.Air.{payloadLimit};
 ghost use Rattle.record.specs.Records.{recordSize};
-ghost use Rattle.unpack.specs.Turns.{Turned};
 
 // A line may be twice as long as its record, so what is read at once is half of what is written.
 const BUFFER_BYTES: usize = 32768;
-
-// What a turn leaves: the place in the input of the buffer's front, and how many bytes are kept there.
-struct State {
-    front: u64,
-    kept: usize,
-    next: Next,
-}
-
-// Unpacks what was read, and writes the lines. A place past 2^64, which no input reaches, would wrap.
-fn turn(front: u64, filled: Filled, buf: &mut [u8], out: &mut [u8]) -> State
-    requires { ⌜ filled .end ≤ length (now buf) ⌝ }
-    requires { ⌜ 2 * length (now buf) ≤ length (now out) ⌝ }
-    ensures { λ r. ⌜ Turned (now (buf .entry)) r ⌝ }
-{
-    let end = filled.end;
-    let unpacked = unpacking::unpack_piece(buf, end, out);
-    let left = unpacked.left;
-    let passed = (end - left) as u64;
-    let to = unpacked.to;
-    let wrote = write(&out[..to]);
-    let read = filled.next;
-    let next = after_write(after_read(read, unpacked.over), wrote);
-    State {
-        front: std::num::wrapping_add_u64(front, passed),
-        kept: left,
-        next,
-    }
-}
 
 // Tells where and why the rest is no record.
 fn tell_cut(left: &[u8], place: u64) {
@@ -60,17 +29,7 @@ fn tell_cut(left: &[u8], place: u64) {
     }
 }
 
-// Tells of the bytes that are left at the buffer's front, where there are any.
-fn finish(end: State, buf: &[u8])
-    requires { ⌜ end .kept ≤ length (now buf) ⌝ }
-{
-    let left = end.kept;
-    if 0 < left {
-        tell_cut(&buf[..left], end.front);
-    }
-}
-
-// Unpacks the input, read by read. Where a read fails, the lines up to there are written.
+// Unpacks the input, read by read. Where a read or a write fails, the lines up to there are written, and nothing is told of the rest.
 // The turns are counted down from a number that no run uses up: each but the last reads a byte.
 fn unpack(buf: &mut [u8], out: &mut [u8])
     requires { ⌜ recordSize payloadLimit ≤ length (now buf) ⌝ }
@@ -78,24 +37,23 @@ fn unpack(buf: &mut [u8], out: &mut [u8])
 {
     let mut front = 0;
     let mut kept = 0;
+    let mut ended = false;
     let mut turns = u64::MAX;
     while turns > 0 {
         let filled = read_on(buf, kept);
-        let done = turn(front, filled, buf, out);
-        let next = done.next;
-        match next {
-            Next::More => {}
-            Next::Done => {
-                finish(done, buf);
-                return;
-            }
-            Next::Failed => {
-                return;
-            }
+        let end = filled.end;
+        let unpacked = unpacking::unpack_piece(buf, end, out);
+        front = moved_on(front, end, unpacked.left);
+        kept = unpacked.left;
+        let read = filled.next;
+        let next = send(out, unpacked.to, read, unpacked.over);
+        ended = is_done(next);
+        turns = turns_left(turns, next);
+    }
+    if ended {
+        if unpacking::close(kept) {
+            tell_cut(&buf[..kept], front);
         }
-        front = done.front;
-        kept = done.kept;
-        turns -= 1;
     }
 }
 

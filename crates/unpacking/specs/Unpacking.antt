@@ -3,6 +3,7 @@
 use mathlib.Core.Bool.{Bool, false}
 use mathlib.Core.List.{List, []}
 use Prim.Native.Nat.{ℕ}
+use lib.Dec.{ltb}
 use Rattle.record.specs.Walks.{Walk, Walked, walkOf, fedOf}
 use Rattle.unpacking.specs.Lines.{textLineIn}
 
@@ -25,3 +26,7 @@ noClosing s cut = []
 -- the lines of an input that comes in pieces
 unfoldable pub streamedOf : List (List ℕ) → List ℕ
 streamedOf pieces = fedOf lineWalk noClosing tt [] pieces
+
+-- whether an input is cut of which so many bytes are left: they are no record
+abbrev pub cutWith : ℕ → Bool
+cutWith left = ltb 0 left

@@ -90,6 +90,18 @@ pub fn sized(bytes: &[u8], at: usize, most: usize) -> &[u8]
     part(bytes, start, start + length_at(bytes, at, most))
 }
 
+// Whether all bytes are 0.
+pub fn all_zero(bytes: &[u8]) -> bool {
+    let mut k = 0;
+    while k < bytes.len() {
+        if bytes[k] != 0 {
+            return false;
+        }
+        k += 1;
+    }
+    true
+}
+
 // Fills the front of a slice with a start and then each byte a step above the last, modulo 256.
 pub fn fill(bytes: &mut [u8], n: usize, start: u8, step: u8)
     requires { ⌜ n ≤ length (now bytes) ⌝ }

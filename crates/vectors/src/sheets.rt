@@ -38,15 +38,28 @@ fn source_at(record: &Record, sheet: usize, k: usize) -> Source
     }
 }
 
-// The sheet that starts at a place, which is 0 or behind rules and call sign: its sources, and its counts.
+// Whether a source of the record is all 0.
+fn is_silent(record: &Record, sheet: usize, k: usize) -> bool
+    requires { do ⌜ sheet ≤ (← ⟦layout::SIGNED⟧) ⌝ }
+    requires { ⌜ k < 8 ⌝ }
+{
+    let at = sheet + k * layout::SOURCE;
+    numbers::all_zero(numbers::part(record, at, at + layout::SOURCE))
+}
+
+// The sheet that starts at a place, which is 0 or behind rules and call sign: its sources, and its counts. A source that is all 0 is that of a
+// new sheet.
 fn sources_of(record: &Record, sheet: usize) -> [Source; 8]
     requires { do ⌜ sheet ≤ (← ⟦layout::SIGNED⟧) ⌝ }
 {
-    let mut sources = [source_at(record, sheet, 0); 8];
-    let mut k = 1;
+    let fresh = sheet::new_sheet();
+    let mut sources = fresh.sources;
+    let mut k = 0;
     while k < 8 {
-        let source = source_at(record, sheet, k);
-        sources[k] = source;
+        if !is_silent(record, sheet, k) {
+            let source = source_at(record, sheet, k);
+            sources[k] = source;
+        }
         k += 1;
     }
     sources

@@ -17,9 +17,9 @@ use Rattle.base.proofs.Xor.{xor-assoc, xor-twice, xor-back, xor-swap}
 use Rattle.word.specs.declared.Repaired.{Repaired}
 use Rattle.word.specs.declared.Repaired.the-variants.{Word, Beyond}
 use Rattle.word.specs.Words.{wordLimit, Valid, dataOf, encodeOf, flipCount, distance}
-use Rattle.word.specs.Repairs.{Near, nearest, repairedTo, repairOf, isBeyond, wordOf, patternOf, remainderOf, mark, rowFor, rowOf, syndromes, byRow, radius, tableRows}
+use Rattle.word.specs.Repairs.{Near, Close, nearest, repairedTo, repairOf, isBeyond, wordOf, patternOf, remainderOf, mark, rowFor, rowOf, syndromes, byRow, radius, tableRows}
 use Rattle.word.proofs.Valids.{valid-lt}
-use Rattle.word.proofs.Nearest.{Close, Finds, finds, finds-none, nearest-finds, nearest-is, nearest-none, close-moved}
+use Rattle.word.proofs.Nearest.{Finds, finds, finds-none, nearest-finds, nearest-is, nearest-none, close-moved}
 use Rattle.word.proofs.Division.{taken-valid, remainder-lt}
 
 -- a number above 32,767 is no word
@@ -35,6 +35,26 @@ repair-close w v h c = ap (repairedTo w) (nearest-is w v h c)
 pub repair-far : (w : ℕ) → w < wordLimit → ((v : ℕ) → Close w v → ⊥) → repairOf w ≡ Beyond
 unfolding repairOf
 repair-far w h never = ap (repairedTo w) (nearest-none w never h)
+
+beyond-word : {v e : ℕ} → Beyond ≡ Word v e → ⊥
+beyond-word is = let z : _≡_ {A = ℕ} 0 1 = cc in omega arith
+
+-- and what is answered is so
+word-close : (w v e : ℕ) (n : Near) → Finds w n → repairedTo w n ≡ Word v e → Close w v × (e ≡ bitXor w v)
+word-close w v e n (finds u c) is = let same : u ≡ v = cc in rw (← same) (c, cc)
+word-close w v e n (finds-none never) is = absurd (beyond-word is)
+
+beyond-far : (w : ℕ) (n : Near) → Finds w n → repairedTo w n ≡ Beyond → (v : ℕ) → Close w v → ⊥
+beyond-far w n (finds u c) is = absurd (beyond-word (sym is))
+beyond-far w n (finds-none never) is = never
+
+pub repair-word : (w v e : ℕ) → w < wordLimit → repairOf w ≡ Word v e → Close w v × (e ≡ bitXor w v)
+unfolding repairOf
+repair-word w v e h = word-close w v e (nearest w) (nearest-finds w h)
+
+pub repair-beyond : (w : ℕ) → w < wordLimit → repairOf w ≡ Beyond → (v : ℕ) → Close w v → ⊥
+unfolding repairOf
+repair-beyond w h = beyond-far w (nearest w) (nearest-finds w h)
 
 -- THE LAW OF FLIPS: a valid word with at most three flips becomes that very word, with exactly these flips
 pub repair-flipped : (v e : ℕ) → Valid v → e < wordLimit → flipCount e ≤ radius → repairOf (bitXor v e) ≡ Word v e

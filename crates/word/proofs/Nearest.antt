@@ -12,13 +12,8 @@ use Rattle.base.proofs.Tests.{lt-or-ge}
 use Rattle.base.proofs.Lowest.{lowest-is}
 use Rattle.base.proofs.Xor.{xor-right}
 use Rattle.word.specs.Words.{wordLimit, multipleOf, Valid, distance}
-use Rattle.word.specs.Repairs.{Near, at, none, within, nearestWord, nearest, radius}
+use Rattle.word.specs.Repairs.{Near, at, none, Close, within, nearestWord, nearest}
 use Rattle.word.proofs.Valids.{valid-xor, valid-one}
-
--- v is a valid word within three of w
-pub record Close (w v : ℕ) : Type 0 where
-  pub valid : Valid v
-  pub near : distance w v ≤ radius
 
 -- n is the valid word within three of w; or it is none, and there is no such word
 pub data Finds (w : ℕ) : Near → Type 0 where

@@ -12,9 +12,8 @@ use Rattle.base.proofs.Lowest.{Passed, starts, goes-on}
 use Rattle.word.specs.declared.Repaired.{Repaired}
 use Rattle.word.specs.declared.Repaired.the-variants.{Word, Beyond}
 use Rattle.word.specs.Words.{wordLimit, multipleOf, Valid, distance}
-use Rattle.word.specs.Repairs.{within, repairOf}
+use Rattle.word.specs.Repairs.{Close, within, repairOf}
 use Rattle.word.proofs.Valids.{valid-lt}
-use Rattle.word.proofs.Nearest.{Close}
 use Rattle.word.proofs.Answer.{repair-close, repair-far}
 
 -- nothing is found yet, and none of the valid words before q is within three

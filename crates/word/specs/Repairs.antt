@@ -2,11 +2,11 @@
 -- Assumes nothing.
 use mathlib.Core.Bool.{Bool, true, false, cond}
 use mathlib.Core.List.{List}
-use Prim.Native.Nat.{ℕ, _^_}
+use Prim.Native.Nat.{ℕ, _^_, _≤_}
 use lib.Bits.{bitXor}
 use lib.Dec.{leb, ltb, eqb}
 use Rattle.base.specs.Lists.{lowest, tabulate}
-use Rattle.word.specs.Words.{wordLimit, multipleOf, validCount, parityBits, dataOf, encodeOf, distance}
+use Rattle.word.specs.Words.{wordLimit, multipleOf, Valid, validCount, parityBits, dataOf, encodeOf, distance}
 use Rattle.word.specs.declared.Repaired.{Repaired}
 use Rattle.word.specs.declared.Repaired.the-variants.{Word, Beyond}
 
@@ -19,7 +19,13 @@ pub data Near : Type 0 where
 abbrev pub radius : ℕ
 radius = 3
 
--- the valid word of multiplier q differs from w in no more places than that
+-- THE RULE: v is a "valid word that differs in at most three places" from w. The rules that accept a header ask for it (`AllClose`), and
+-- `repaired-exactly` shows that repair finds it.
+pub record Close (w v : ℕ) : Type 0 where
+  pub valid : Valid v
+  pub near : distance w v ≤ radius
+
+-- how it is found: the valid word of multiplier q differs from w in no more places than that
 abbrev pub within : ℕ → ℕ → Bool
 within w q = leb (distance w (multipleOf q)) radius
 

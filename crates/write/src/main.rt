@@ -7,6 +7,7 @@ use header::FIELD_COUNT;
 use header::Fields;
 use libc::STDERR_FILENO;
 use options::Parsed;
+use options::Word;
 use options::number;
 use record::PAYLOAD_START;
 use record_writer::LONGEST_RECORD;
@@ -171,13 +172,9 @@ fn run(edition: Edition) {
 }
 
 fn main() {
-    if options::is(1, b"flown") {
-        run(Edition::Flown);
-        return;
+    match options::word_at(1) {
+        Word::SaysFlown => run(Edition::Flown),
+        Word::SaysCorrected => run(Edition::Corrected),
+        Word::Strict | Word::NamesEdition | Word::Other => tell_words(),
     }
-    if options::is(1, b"corrected") {
-        run(Edition::Corrected);
-        return;
-    }
-    tell_words();
 }

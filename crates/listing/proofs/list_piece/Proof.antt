@@ -27,7 +27,7 @@ same-length-2 : tie.Need-same-length-2
 same-length-2 c = search needs
 
 returns : tie.Need-returns
-returns c = search needs
+returns c = search (needs, left-inside)
 
 pub list-piece-spec : {M : Type 1} → statement M
 list-piece-spec =

@@ -11,11 +11,11 @@ first-no-bit-requires c κs = search needs
 returns : tie.Need-returns
 returns c = search (needs, gives-19)
 
-sub-if2 : tie.Need-sub-if2
-sub-if2 c = search needs
+sub-left : tie.Need-sub-left
+sub-left c = search needs
 
-cast-if2 : tie.Need-cast-if2
-cast-if2 c = search needs
+cast-left : tie.Need-cast-left
+cast-left c = search needs
 
 returns-2 : tie.Need-returns-2
 returns-2 c = search (needs, gives-37)
@@ -25,4 +25,4 @@ returns-3 c = search (needs, accepts)
 
 pub judge-spec : {M : Type 1} → statement M
 judge-spec =
-    tie.close (tie.spec first-no-bit-requires returns sub-if2 cast-if2 returns-2 returns-3)
+    tie.close (tie.spec first-no-bit-requires returns sub-left cast-left returns-2 returns-3)

@@ -24,10 +24,10 @@ more-requires : tie.Need-more-requires
 more-requires c κs = search (needs, room)
 
 returns : tie.Need-returns
-returns c = search (needs, stays, moves-on)
+returns c = search (needs, stays)
 
 returns-2 : tie.Need-returns-2
-returns-2 c = search (needs, stays, moves-on)
+returns-2 c = search (needs, moves-on)
 
 pub take-spec : {M : Type 1} → statement M
 take-spec =

@@ -13,53 +13,20 @@ Inv-loop table edition state piece out₀ tally₀ at₀ out tally at = Passing 
 abbrev μ-loop : tie.MeasureT-loop
 μ-loop table edition state piece out₀ tally₀ at₀ out tally at = length piece - at
 
-loop-holds : tie.Need-loop-holds Inv-loop μ-loop
-loop-holds c = search (needs, all-starts)
-
-put-marks-requires : tie.Need-put-marks-requires Inv-loop μ-loop
-put-marks-requires c κs = (search needs, (search needs, (search needs, (search needs, search needs))))
-
-slice-reshare-prefix-write : tie.Need-slice-reshare-prefix-write Inv-loop μ-loop
-slice-reshare-prefix-write c = search needs
-
-slice-aggregate-write : tie.Need-slice-aggregate-write Inv-loop μ-loop
-slice-aggregate-write c = search (needs, told-size)
-
-write-requires : tie.Need-write-requires Inv-loop μ-loop
-write-requires c κs = search needs
-
-same-length : tie.Need-same-length Inv-loop μ-loop
-same-length c = search needs
-
-returns : tie.Need-returns Inv-loop μ-loop
-returns c = search (needs, all-failed)
-
-same-length-2 : tie.Need-same-length-2 Inv-loop μ-loop
-same-length-2 c = search needs
-
-returns-2 : tie.Need-returns-2 Inv-loop μ-loop
-returns-2 c = search (needs, all-over)
-
-loop-less : tie.Need-loop-less Inv-loop μ-loop
-loop-less c = search (needs, all-less)
-
-loop-again : tie.Need-loop-again Inv-loop μ-loop
-loop-again c = search (needs, all-goes-on)
-
 pub report-all-spec : {M : Type 1} → statement M
 report-all-spec =
     tie.close
     (tie.spec
     Inv-loop
     μ-loop
-    loop-holds
-    put-marks-requires
-    slice-reshare-prefix-write
-    slice-aggregate-write
-    write-requires
-    same-length
-    returns
-    same-length-2
-    returns-2
-    loop-less
-    loop-again)
+    (λ c. search (needs, all-starts))
+    (λ c κs. (search needs, (search needs, (search needs, (search needs, search needs)))))
+    (λ c. search needs)
+    (λ c. search (needs, told-size))
+    (λ c κs. search needs)
+    (λ c. search needs)
+    (λ c. search (needs, all-failed))
+    (λ c. search needs)
+    (λ c. search (needs, all-over))
+    (λ c. search (needs, all-less))
+    (λ c. search (needs, all-goes-on)))
