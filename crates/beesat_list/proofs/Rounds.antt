@@ -9,9 +9,11 @@ use lib.ListN.{length, take}
 use Rattle.beesat.specs.Tables.{frameBytes}
 use Rattle.beesat_lines.specs.declared.Counts.{Counts}
 use Rattle.beesat_lines.specs.Counting.{heardOf, noCounts}
-use Rattle.beesat_listing.specs.declared.Listed.{Listed}
-use Rattle.beesat_listing.specs.Promises.{Turns}
-use Rattle.beesat_listing.proofs.Keeping.{left-inside, left-short, heard-few}
+use Rattle.walk.specs.Walks.{waiting}
+use Rattle.walk.specs.Scans.{Turned}
+use Rattle.beesat_listing.specs.Listing.{frameWalk}
+use Rattle.beesat_listing.proofs.Keeping.{left-short}
+use Rattle.beesat_listing.proofs.Scanning.{heard-few}
 use Rattle.text.proofs.Sizes.{part-size}
 use Rattle.streams.specs.declared.Filled.{Filled}
 use Rattle.streams.specs.declared.Next.{Next}
@@ -30,15 +32,15 @@ starts-counting buf out c turns size none few = record { ready = starts frameByt
 
 -- a read, the lines of what was read, and their write
 pub counts-on : (buf₀ out₀ buf out : List ℕ) (c : Counts) (kept turns : ℕ) → Counting buf₀ out₀ buf out c kept turns → (filled : Filled) → ReadOn buf kept filled → (read : List ℕ) → length read ≡ length buf
-    → (buf′ out′ : List ℕ) (r : Listed) → Turns c read (filled .end) out buf′ out′ r → length buf′ ≡ length read → length out′ ≡ length out → (next : Next) (turns′ : ℕ) → TurnsLeft turns next turns′
-    → Counting buf₀ out₀ buf′ out′ (r .counts) (r .left) turns′
-counts-on buf₀ out₀ buf out c kept turns so filled came read same buf′ out′ r done input output next turns′ turned =
+    → (buf′ out′ : List ℕ) (c′ : Counts) (left to : ℕ) → Turned frameWalk 8 c read (filled .end) out buf′ out′ c′ left to waiting → length buf′ ≡ length read → length out′ ≡ length out → (next : Next) (turns′ : ℕ) → TurnsLeft turns next turns′
+    → Counting buf₀ out₀ buf′ out′ c′ left turns′
+counts-on buf₀ out₀ buf out c kept turns so filled came read same buf′ out′ c′ left to done input output next turns′ turned =
     let inside : filled .end ≤ length read = omega (arith, came .inside, same) in
-    let within : r .left ≤ filled .end = left-inside c read (filled .end) inside out out′ r (done .listed) in
+    let heard : heardOf c′ ≤ heardOf c + length (take (filled .end) read) = rw (done .listed .state-is) (heard-few c (take (filled .end) read)) in
     record {
       ready =
-          goes-on frameBytes buf₀ out₀ buf out kept turns (so .ready) read buf′ out′ (r .left) false next turns′ same input output
-          (omega (arith, inside, within)) (λ e. left-short c read (filled .end) inside out out′ r (done .listed)) (λ e. refl) turned;
+          goes-on frameBytes buf₀ out₀ buf out kept turns (so .ready) read buf′ out′ left false next turns′ same input output
+          (omega (arith, inside, done .inside)) (λ e. left-short c (take (filled .end) read) out 0 out′ c′ left to (done .listed)) (λ e. refl) turned;
       size = so .size;
-      few = omega (arith, so .few, so .size, so .ready .input, came .inside, turned .fewer, heard-few c (take (filled .end) read) out 0 out′ r (done .listed), part-size read (filled .end) inside);
+      few = omega (arith, so .few, so .size, so .ready .input, came .inside, turned .fewer, heard, part-size read (filled .end) inside);
     }

@@ -1,51 +1,37 @@
--- The whole frames of some bytes, one at a time; and that frames that are there stay the same whatever bytes follow.
+-- The front of some bytes is a frame where there are 144, and waits for more where there are fewer.
 -- Assumes nothing.
-use mathlib.Core.Path.{_≡_, refl, sym, ap}
-use mathlib.Core.List.{List, [], _∷_}
-use Prim.Native.Nat.{ℕ, zero, suc, _+_, _*_, _≤_, _<_}
+use mathlib.Core.Path.{_≡_, refl, sym}
+use mathlib.Core.Bool.{Bool, true, false, cond}
+use mathlib.Core.List.{List}
+use Prim.Native.Nat.{ℕ, _<_, _≤_}
 use native.Mathlib.Omega.{arith}
-use lib.ListN.{length, take, drop, length-drop}
-use lib.Seq.{drop-drop}
+use lib.Dec.{ltb}
+use lib.ListN.{length}
+use borrow.Author.Tests.{lt-ltb, le-ltb, ltb-true, ltb-false}
+use Rattle.walk.specs.Walks.{Front, whole, waits}
 use Rattle.beesat.specs.Tables.{frameBytes}
-use Rattle.beesat_listing.specs.Listing.{framesIn, wholeIn, framesOf, restOf}
+use Rattle.beesat_listing.specs.Listing.{frameFront}
 
--- so many frames are so many
-frames-length : (n : ℕ) (l : List ℕ) → length (framesIn n l) ≡ n
-frames-length zero l = refl
-frames-length (suc n) l = ap suc (frames-length n (drop frameBytes l))
+whole-waits : {i : Unit {0}} → _≡_ {A = Front (Unit {0}) ⊥} (whole i) waits → ⊥
+whole-waits e = let z : _≡_ {A = ℕ} 0 1 = cc in omega arith
 
 module _ (l : List ℕ) where
-  pub frames-many : length (framesOf l) ≤ length l
-  unfolding framesOf
-  frames-many = rw frames-length (omega arith)
+  pub front-some : frameBytes ≤ length l → frameFront l ≡ whole tt
+  front-some h = rw (le-ltb (length l) frameBytes h)
 
-  -- under 144 bytes there is none
-  pub frames-none : length l < frameBytes → framesOf l ≡ []
-  unfolding framesOf
-  frames-none h = let none : wholeIn l ≡ 0 = omega arith in rw none
+  pub front-none : length l < frameBytes → frameFront l ≡ waits
+  front-none h = rw (lt-ltb (length l) frameBytes h)
 
-  pub rest-none : length l < frameBytes → restOf l ≡ l
-  unfolding restOf
-  rest-none h = let none : wholeIn l ≡ 0 = omega arith in rw none
+  pub front-whole : (i : Unit {0}) → frameFront l ≡ whole i → frameBytes ≤ length l
+  front-whole i e = by (ltb (length l) frameBytes) refl e
+    where
+      by : (b : Bool) → ltb (length l) frameBytes ≡ b → _≡_ {A = Front (Unit {0}) ⊥} (cond b waits (whole tt)) (whole i) → frameBytes ≤ length l
+      by true is e = absurd (whole-waits (sym e))
+      by false is e = ltb-false (length l) frameBytes is
 
-  one-less : frameBytes ≤ length l → wholeIn l ≡ suc (wholeIn (drop frameBytes l))
-  one-less h = rw (length-drop frameBytes l) (omega arith)
-
-  -- else the first, and those of what follows it
-  pub frames-next : frameBytes ≤ length l → framesOf l ≡ take frameBytes l ∷ framesOf (drop frameBytes l)
-  unfolding framesOf
-  frames-next h = rw (one-less h)
-
-  pub rest-next : frameBytes ≤ length l → restOf l ≡ restOf (drop frameBytes l)
-  unfolding restOf
-  rest-next h =
-      let e : 144 * suc (wholeIn (drop 144 l)) ≡ 144 + 144 * wholeIn (drop 144 l) = omega arith in
-      rw (one-less h, e) (sym (drop-drop (144 * wholeIn (drop 144 l)) 144 l))
-
-  pub rest-short : length (restOf l) < frameBytes
-  unfolding restOf
-  rest-short = rw length-drop (omega arith)
-
-  pub rest-within : length (restOf l) ≤ length l
-  unfolding restOf
-  rest-within = rw length-drop (omega arith)
+  pub front-waits : frameFront l ≡ waits → length l < frameBytes
+  front-waits e = by (ltb (length l) frameBytes) refl e
+    where
+      by : (b : Bool) → ltb (length l) frameBytes ≡ b → _≡_ {A = Front (Unit {0}) ⊥} (cond b waits (whole tt)) waits → length l < frameBytes
+      by true is e = ltb-true (length l) frameBytes is
+      by false is e = absurd (whole-waits e)

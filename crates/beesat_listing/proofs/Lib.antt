@@ -1,5 +1,5 @@
 pub mod Frames
+pub mod Streaming
 pub mod Scanning
 pub mod Keeping
-pub mod Streaming
 pub mod Worked

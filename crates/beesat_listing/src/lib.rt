@@ -7,13 +7,15 @@ use beesat_lines::put_closing;
 use beesat_lines::put_line;
 use beesat_lines::put_title;
 ghost use Prim.Native.Nat.{_+_, _*_, _<_, _≤_, _^_};
-ghost use lib.Dec.{ltb};
 ghost use lib.ListN.{length};
 ghost use Rattle.text.specs.Text.{Put};
+ghost use Rattle.walk.specs.Walks.{waiting, cutWith};
+ghost use Rattle.walk.specs.Scans.{Scanned, Turned};
 ghost use Rattle.beesat_lines.specs.Counting.{heardOf};
 ghost use Rattle.beesat_lines.specs.Lines.{closingOf};
 ghost use Rattle.beesat_lines.specs.Rooms.{lineRoom};
-ghost use Rattle.beesat_listing.specs.Promises.{Opens, Takes, Scanned, Turns};
+ghost use Rattle.beesat_listing.specs.Listing.{frameWalk};
+ghost use Rattle.beesat_listing.specs.Promises.{Opens, Takes};
 
 // A listing was opened: the counts of no frame, and the place after the first line.
 pub struct Opened {
@@ -69,7 +71,7 @@ fn take_frame(counts: Counts, frame: &[u8], out: &mut [u8], to: usize) -> Taken
 pub fn list_frames(start: Counts, piece: &[u8], out: &mut [u8], at: usize) -> Listed
     requires { ⌜ heardOf start + length (now piece) < 2 ^ 64 ⌝ }
     requires { ⌜ at + 8 * length (now piece) ≤ length (now out) ⌝ }
-    ensures { λ r. ⌜ Scanned start (now (piece .entry)) (now (out .entry)) at (now (out .exit)) r ⌝ }
+    ensures { λ r. ⌜ Scanned frameWalk 8 start (now (piece .entry)) (now (out .entry)) at (now (out .exit)) (r .counts) (r .left) (r .to) waiting ⌝ }
 {
     let mut counts = start;
     let mut used = 0;
@@ -90,11 +92,11 @@ pub fn list_piece(counts: Counts, buf: &mut [u8], end: usize, out: &mut [u8]) ->
     requires { ⌜ heardOf counts + end < 2 ^ 64 ⌝ }
     requires { ⌜ end ≤ length (now buf) ⌝ }
     requires { ⌜ 8 * end ≤ length (now out) ⌝ }
-    ensures { λ r. ⌜ Turns counts (now (buf .entry)) end (now (out .entry)) (now (buf .exit)) (now (out .exit)) r ⌝ }
+    ensures { λ r. ⌜ Turned frameWalk 8 counts (now (buf .entry)) end (now (out .entry)) (now (buf .exit)) (now (out .exit)) (r .counts) (r .left) (r .to) waiting ⌝ }
 {
     let listed = list_frames(counts, &buf[..end], out, 0);
     let left = listed.left;
-    record::keep(buf, end - left, left);
+    walk::keep(buf, end - left, left);
     listed
 }
 
@@ -102,7 +104,7 @@ pub fn list_piece(counts: Counts, buf: &mut [u8], end: usize, out: &mut [u8]) ->
 pub fn close(counts: Counts, left: usize, out: &mut [u8]) -> usize
     requires { ⌜ heardOf counts < 2 ^ 64 ⌝ }
     requires { ⌜ 2 * lineRoom ≤ length (now out) ⌝ }
-    ensures { λ r. ⌜ Put (now (out .entry)) 0 (closingOf counts (ltb 0 left)) (now (out .exit)) r ⌝ }
+    ensures { λ r. ⌜ Put (now (out .entry)) 0 (closingOf counts (cutWith left)) (now (out .exit)) r ⌝ }
 {
     put_closing(out, 0, counts, 0 < left)
 }

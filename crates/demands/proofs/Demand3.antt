@@ -26,7 +26,7 @@ use Rattle.sign.specs.Calls.{Call, lookedAt, Agrees}
 use Rattle.header.specs.declared.Fields.{Fields}
 use Rattle.header.specs.declared.Rules.{Rules}
 use Rattle.header.specs.Rules.{usualRules}
-use Rattle.listing.specs.Listing.{listedRules}
+use Rattle.frame.specs.Recorded.{listedRules}
 use Rattle.header.specs.declared.Answer.the-variants.{Accepted, Refused}
 use Rattle.base.specs.declared.Written.the-variants.{Done}
 use Rattle.header.specs.Fields.{satelliteOf}

@@ -43,16 +43,18 @@ use Rattle.sheet.specs.Wide.{held, widened, wideOffered}
 use Rattle.sheet.specs.Records.{nextOf}
 use Rattle.sheet.specs.Lanes.{hearOf, summedOf}
 use Rattle.sheet.specs.Sheets.{countedAt, newSheet, countsAfter, acceptedOf, refusedOf, heardOf, fullOf, offerOf, displayOf}
-use Rattle.unpacking.specs.Unpacking.{cutWith}
+use Rattle.walk.specs.Walks.{cutWith}
 use Rattle.packing.specs.declared.Judged.{Judged}
-use Rattle.packing.specs.Packing.{fineOf}
+use Rattle.packing.specs.Packing.{wrongOf}
 use Rattle.packing.specs.Pieces.{opened}
 use Rattle.lines.specs.declared.Tally.{Tally}
 use Rattle.lines.specs.Tallies.{totalOf}
 use Rattle.page_lines.specs.declared.Counts.{Counts}
 use Rattle.page_lines.specs.Counting.{recordsHeard}
 use Rattle.record.specs.declared.Cut.{Cut}
+use Rattle.record.specs.declared.Ending.{Ending}
 use Rattle.record.specs.Records.{cutOf}
+use Rattle.record.specs.Walks.{overOf}
 use Rattle.record_writer.specs.Writing.{afterRecord, RecordWritten}
 use Rattle.record_writer.specs.LongPayload.{wholeOf}
 use Rattle.page.specs.declared.PageAnswer.{PageAnswer}
@@ -224,11 +226,14 @@ full-wide-one sheet r s = one
 pub unpacking-close-one : (left : ℕ) (r s : Bool) → r ≡ cutWith left → s ≡ cutWith left → r ≡ s
 unpacking-close-one left r s = one
 
-pub is-fine-one : (judged : Judged) (r s : Bool) → r ≡ fineOf judged → s ≡ fineOf judged → r ≡ s
-is-fine-one judged r s = one
+pub is-wrong-one : (judged : Judged) (r s : Bool) → r ≡ wrongOf judged → s ≡ wrongOf judged → r ≡ s
+is-wrong-one judged r s = one
 
 pub packing-open-one : (r s : Judged) → r ≡ opened → s ≡ opened → r ≡ s
 packing-open-one r s = one
+
+pub is-over-one : (ending : Ending) (r s : Bool) → r ≡ overOf ending → s ≡ overOf ending → r ≡ s
+is-over-one ending r s = one
 
 pub next-record-one : (rest : List ℕ) (r s : Cut) → r ≡ cutOf rest → s ≡ cutOf rest → r ≡ s
 next-record-one rest r s = one

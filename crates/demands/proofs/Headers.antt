@@ -26,7 +26,7 @@ use Rattle.header.proofs.Accepted.{rules-then-header, header-then-rules, one-he
 use Rattle.header.proofs.Damage as damage
 use Rattle.header.proofs.Writing as writing
 use Rattle.header.proofs.WrittenAir.{Sent, sent}
-use Rattle.listing.specs.Listing.{listedRules}
+use Rattle.frame.specs.Recorded.{listedRules}
 
 -- DEMAND 2: "accepted exactly when the published rules accept it"
 pub header-accepted-exactly : (s : Signal) (h : Header) (flips : ℕ) (patterns : List ℕ)

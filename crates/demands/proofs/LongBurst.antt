@@ -17,7 +17,7 @@ use Rattle.header.specs.declared.Answer.the-variants.{Refused}
 use Rattle.header.specs.Fields.{dataAt, codedOf}
 use Rattle.header.specs.Writing.{bitsFor, airFor}
 use Rattle.frame.specs.Frames.{frame, frameOf}
-use Rattle.listing.specs.Listing.{listedRules}
+use Rattle.frame.specs.Recorded.{listedRules}
 use Rattle.demands.specs.Zeros.{sentZeros, burstZeros}
 
 pub burst-of-43 : (flipsBetween (burstZeros 43) sentZeros ≡ 43) × (flipsInWord (burstZeros 43) sentZeros 0 ≡ 4) × (frameOf (frame (listedRules Flown) (burstZeros 43) []) ≡ Refused (refusal 3 0))

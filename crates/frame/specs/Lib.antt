@@ -1,2 +1,3 @@
 pub mod Frames
 pub mod Accepting
+pub mod Recorded

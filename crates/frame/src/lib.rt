@@ -7,12 +7,18 @@ use header::Answer;
 use header::Header;
 use header::Read;
 use header::Rules;
+use record::LENGTH_BYTES;
+use record::PAYLOAD_START;
 use word::table::TABLE_ROWS;
 ghost use mathlib.Core.Path.{_≡_};
+ghost use Prim.Native.Nat.{_≤_};
+ghost use lib.ListN.{length};
 ghost use Rattle.base.specs.Checks.{first};
 ghost use Rattle.word.specs.Repairs.{syndromes};
+ghost use Rattle.record.specs.Records.{recordSize};
 ghost use Rattle.sign.specs.Calls.{callOf};
 ghost use Rattle.frame.specs.Frames.{frame, signedFrame, frameWith, payloadChecks, frameRead};
+ghost use Rattle.frame.specs.Recorded.{frameIn};
 
 // Checks 7 and 8 on the payload of an accepted header.
 fn judge_payload(header: Header, flips: u32, payload: &[u8]) -> Answer
@@ -85,4 +91,19 @@ pub fn read_frame_signed(rules: Rules, call: &[u8], air: &[u8], payload: &[u8]) 
 {
     let table = word::table::whole();
     read_frame_with(&table, rules, true, call, air, payload)
+}
+
+// Reads the record at the front of `rest`, which has `len` payload bytes and is all there.
+pub fn read_record(table: &[u16; TABLE_ROWS], rules: Rules, rest: &[u8], len: usize) -> Read
+    requires { ⌜ now table ≡ syndromes ⌝ }
+    requires { ⌜ recordSize len ≤ length (now rest) ⌝ }
+    ensures { λ r. ⌜ r ≡ frameRead (frameIn rules len (now (rest .entry))) ⌝ }
+{
+    let end = PAYLOAD_START + len;
+    read_frame_in(
+        table,
+        rules,
+        &rest[LENGTH_BYTES..PAYLOAD_START],
+        &rest[PAYLOAD_START..end],
+    )
 }

@@ -5,7 +5,8 @@ use base::Edition;
 use header::Rules;
 use libc::STDERR_FILENO;
 use lines::Tally;
-use record::Cut;
+use record::Ending;
+use record::is_over;
 use streams::is_done;
 use streams::moved_on;
 use streams::read_on;
@@ -19,34 +20,34 @@ ghost use lib.ListN.{length};
 ghost use Rattle.word.specs.Repairs.{syndromes};
 ghost use Rattle.air.specs.Air.{payloadLimit};
 ghost use Rattle.record.specs.Records.{recordSize};
-ghost use Rattle.listing.specs.Listing.{listedRules};
+ghost use Rattle.frame.specs.Recorded.{listedRules};
 ghost use Rattle.lines.specs.Rooms.{lineRoom};
 
-// Tells where and why the listing is cut: what is left stands at that place, and a whole record is one that a sheet does not take.
-fn tell_cut(left: &[u8], place: u64) {
+// Tells where and why the listing is cut.
+fn tell_cut(ending: Ending, place: u64) {
     io::write_all(STDERR_FILENO, b"cut at byte ");
     io::print_decimal(STDERR_FILENO, place);
-    match record::next_record(left) {
-        Cut::Record { .. } => {
+    match ending {
+        Ending::Full => {
             io::write_all(STDERR_FILENO, b": the sheet is full\n");
         }
-        Cut::TooLong => {
+        Ending::TooLong => {
             io::write_all(STDERR_FILENO, b": the length there is over 1,023\n");
         }
-        Cut::Short => {
+        Ending::Waits => {
             io::write_all(STDERR_FILENO, b": too few bytes for a record\n");
         }
     }
 }
 
-// Writes the last lines. What is left of the input stands at this place.
-fn finish(strict: bool, tally: Tally, left: &[u8], place: u64, out: &mut [u8])
+// Writes the last lines of a listing that ended so, with so many bytes left from a place on.
+fn finish(strict: bool, tally: Tally, ending: Ending, left: usize, place: u64, out: &mut [u8])
     requires { ⌜ 2 * lineRoom ≤ length (now out) ⌝ }
 {
-    let closed = listing::close(tally, left.len(), out);
+    let closed = listing::close(tally, left, out);
     let to = closed.to;
     if write(&out[..to]) && closed.cut && strict {
-        tell_cut(left, place);
+        tell_cut(ending, place);
     }
 }
 
@@ -66,6 +67,7 @@ fn list(table: &[u16; TABLE_ROWS], rules: Rules, strict: bool, buf: &mut [u8], o
     let mut tally = opened.tally;
     let mut front = 0;
     let mut kept = 0;
+    let mut ending = Ending::Waits;
     let mut ended = false;
     let mut turns = u64::MAX;
     while turns > 0 {
@@ -75,13 +77,15 @@ fn list(table: &[u16; TABLE_ROWS], rules: Rules, strict: bool, buf: &mut [u8], o
         front = moved_on(front, end, listed.left);
         tally = listed.tally;
         kept = listed.left;
+        let after = listed.ending;
+        ending = after;
         let read = filled.next;
-        let next = send(out, listed.to, read, listed.over);
+        let next = send(out, listed.to, read, is_over(after));
         ended = is_done(next);
         turns = turns_left(turns, next);
     }
     if ended {
-        finish(strict, tally, &buf[..kept], front, out);
+        finish(strict, tally, ending, kept, front, out);
     }
 }
 

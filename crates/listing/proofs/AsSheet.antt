@@ -16,8 +16,13 @@ use Rattle.header.specs.declared.Answer.the-variants.{Accepted, Refused}
 use Rattle.frame.specs.Frames.{Frame, frameOf, frameRead}
 use Rattle.frame.proofs.Rules.{frame-read-is}
 use Rattle.record.specs.declared.Cut.the-variants.{Record}
+use Rattle.record.specs.declared.Ending.{Ending}
+use Rattle.record.specs.declared.Ending.the-variants.{Full, TooLong as LongLength}
 use Rattle.record.specs.Records.{payloadIn, payloadStart, recordSize, cutOf}
 use Rattle.record.proofs.Cuts.{whole-at}
+use Rattle.record.proofs.Walking.{front-whole, Halts, filled, long, early, halts}
+use Rattle.walk.specs.Walks.{whole, Ended, waiting, stopped, Walked, halt, behind, walkOf}
+use Rattle.walk.proofs.Walking.{Stopped, walk-stops, walk-takes, by-items}
 use Rattle.sheet.specs.declared.Sheet.{Sheet}
 use Rattle.sheet.specs.declared.Offered.{Offered}
 use Rattle.sheet.specs.Sheets.{newSheet, heardOf, fullSheet, fullOf, editionOf, offerOf}
@@ -28,18 +33,19 @@ use Rattle.sheet.proofs.Tallies.{run-one-more, accepted-keeps-refused, accepted
 use Rattle.lines.specs.declared.Tally.{Tally}
 use Rattle.lines.specs.Tallies.{nothingHeard, totalOf, tallyAfter}
 use Rattle.lines.specs.Lines.{lineOf}
-use Rattle.listing.specs.Listing.{Scan, fullAt, stay, after, frameIn, tallyIn, lineIn, scanOf}
+use Rattle.frame.specs.Recorded.{frameIn}
+use Rattle.listing.specs.Listing.{fullAt, tallyIn, lineIn, listWalk}
 use Rattle.listing.specs.Offers.{framesIn, linesBy, tallyBy, wholeAhead}
-use Rattle.listing.proofs.Scans.{Stopped, full, long, short, scan-stops, scan-takes, by-records}
+use Rattle.listing.proofs.Streaming.{list-sound}
 use Rattle.listing.proofs.Frames.{frames-more, frames-long, frames-short}
 
 -- after some frames: what became of bytes whose frames are fs is what the sheet makes of these
-pub record AsSheet (own : Edition) (before fs : List Frame) (s : Scan) : Type 0 where
+pub record AsSheet (own : Edition) (before fs : List Frame) (s : Walked Tally Ending) : Type 0 where
   pub lines : s .text ≡ linesBy own (sheetOf own before) fs
-  pub tally : s .tally ≡ tallyBy own (sheetOf own (before ++ fs))
+  pub tally : s .state ≡ tallyBy own (sheetOf own (before ++ fs))
   pub cut : wholeAhead (s .rest) ≡ ltb fullSheet (length before + length fs)
 
-as-same : (own : Edition) (before fs gs : List Frame) (s t : Scan) → fs ≡ gs → s ≡ t → AsSheet own before gs t → AsSheet own before fs s
+as-same : (own : Edition) (before fs gs : List Frame) (s t : Walked Tally Ending) → fs ≡ gs → s ≡ t → AsSheet own before gs t → AsSheet own before fs s
 as-same own before fs gs s t frames scans so = rw (frames, scans) so
 
 -- frames of one edition count, all of them
@@ -48,21 +54,21 @@ as-many own before all = ap length (all-of-edition own before all)
 
 module _ (own : Edition) (before : List Frame) (all : AllOwn own before) (few : length before ≤ fullSheet) where
   -- the bytes have no record at their front
-  as-none : (l : List ℕ) (over : Bool) → wholeAhead l ≡ false → AsSheet own before [] (stay (tallyBy own (sheetOf own before)) l over)
-  as-none l over none = record {
+  as-none : (l : List ℕ) (ended : Ended Ending) → wholeAhead l ≡ false → AsSheet own before [] (halt (tallyBy own (sheetOf own before)) l ended)
+  as-none l ended none = record {
     lines = refl;
     tally = ap (λ (h : List Frame). tallyBy own (sheetOf own h)) (sym (append-nil before));
     cut = none ∙ sym (le-ltb fullSheet (length before + 0) (omega arith));
   }
 
   -- they have one, and the sheet is full
-  as-full : fullOf own (sheetOf own before) ≡ true → (f : Frame) (fs : List Frame) (l : List ℕ) → wholeAhead l ≡ true → AsSheet own before (f ∷ fs) (stay (tallyBy own (sheetOf own before)) l true)
-  as-full filled f fs l whole =
-      let many : fullSheet ≤ length (ofEdition own before) = omega (arith, leb-true fullSheet (heardOf own (sheetOf own before)) filled, offered-counted own before) in
+  as-full : fullOf own (sheetOf own before) ≡ true → (f : Frame) (fs : List Frame) (l : List ℕ) → wholeAhead l ≡ true → AsSheet own before (f ∷ fs) (halt (tallyBy own (sheetOf own before)) l (stopped Full))
+  as-full is-full f fs l ahead =
+      let many : fullSheet ≤ length (ofEdition own before) = omega (arith, leb-true fullSheet (heardOf own (sheetOf own before)) is-full, offered-counted own before) in
       record {
-        lines = rw filled;
+        lines = rw is-full;
         tally = ap (tallyBy own) (sym (same-after own before many (f ∷ fs)));
-        cut = whole ∙ sym (lt-ltb fullSheet (length before + length (f ∷ fs)) (omega (arith, many, as-many own before all)));
+        cut = ahead ∙ sym (lt-ltb fullSheet (length before + length (f ∷ fs)) (omega (arith, many, as-many own before all)));
       }
 
 -- they have one, and the sheet has room
@@ -82,7 +88,7 @@ module _ (own : Edition) (before : List Frame) (all : AllOwn own before) (open' 
   read-same : frameRead f ≡ offerOf own (sheetOf own before) f .read
   read-same = frame-read-is f ∙ ap (λ (o : Offered). o .read) (sym (taken-before own before (rw (all-of-edition own before all) room) f mine))
 
-  as-taken : (fs : List Frame) (s : Scan) → AsSheet own (before ++ f ∷ []) fs s → AsSheet own before (f ∷ fs) (after (lineOf own (heardOf own (sheetOf own before)) (length (f .payload)) (frameRead f)) s)
+  as-taken : (fs : List Frame) (s : Walked Tally Ending) → AsSheet own (before ++ f ∷ []) fs s → AsSheet own before (f ∷ fs) (behind (lineOf own (heardOf own (sheetOf own before)) (length (f .payload)) (frameRead f)) s)
   as-taken fs s so =
       let so-many : length (before ++ f ∷ []) + length fs ≡ length before + length (f ∷ fs) = omega (arith, length-append before (f ∷ [])) in
       record {
@@ -101,28 +107,36 @@ module _ (rules : Rules) where
   own = rules .edition
 
   abbrev Own : Tally → List ℕ → Type 0
-  Own tally l = (before : List Frame) → AllOwn own before → tally ≡ tallyBy own (sheetOf own before) → length before ≤ fullSheet → AsSheet own before (framesIn rules l) (scanOf rules tally l)
+  Own tally l =
+      (before : List Frame) → AllOwn own before → tally ≡ tallyBy own (sheetOf own before) → length before ≤ fullSheet
+      → AsSheet own before (framesIn rules l) (walkOf (listWalk rules) tally l)
 
-  stops : (tally : Tally) (l : List ℕ) (over : Bool) → Stopped tally l over → Own tally l
-  stops tally l over (full {n} e g) before all is few =
-      as-same own before _ _ _ _ (frames-more rules l n e) (scan-stops rules tally l true (full e g) ∙ ap (λ (t : Tally). stay t l true) is)
-      (as-full own before all few (sym (ap fullAt is) ∙ g) (frameIn rules n l) (framesIn rules (drop (recordSize n) l)) l (rw e))
-  stops tally l over (long e) before all is few =
-      as-same own before _ _ _ _ (frames-long rules l e) (scan-stops rules tally l true (long e) ∙ ap (λ (t : Tally). stay t l true) is)
-      (as-none own before all few l true (rw e))
-  stops tally l over (short e) before all is few =
-      as-same own before _ _ _ _ (frames-short rules l e) (scan-stops rules tally l false (short e) ∙ ap (λ (t : Tally). stay t l false) is)
-      (as-none own before all few l false (rw e))
+  stops : (tally : Tally) (l : List ℕ) (ended : Ended Ending) → Stopped (listWalk rules) tally l ended → Own tally l
+  stops tally l ended over = by ended over (halts fullAt (tallyIn rules) (lineIn rules) tally l ended over)
+    where
+      halted-at : (ended : Ended Ending) → Stopped (listWalk rules) tally l ended → (t : Tally) → tally ≡ t → walkOf (listWalk rules) tally l ≡ halt t l ended
+      halted-at ended over t is = walk-stops (listWalk rules) (list-sound rules) tally l ended over ∙ ap (λ (x : Tally). halt x l ended) is
 
-  takes : (tally : Tally) (l : List ℕ) (n : ℕ) → cutOf l ≡ Record n → fullAt tally ≡ false → Own (tallyIn rules tally n l) (drop (recordSize n) l) → Own tally l
-  takes tally l n e g more before all is few =
+      by : (ended : Ended Ending) → Stopped (listWalk rules) tally l ended → Halts (fullAt tally) l ended → Own tally l
+      by ended over (filled {n} e g) before all is few =
+          as-same own before _ _ _ _ (frames-more rules l n e) (halted-at (stopped Full) over (tallyBy own (sheetOf own before)) is)
+          (as-full own before all few (sym (ap fullAt is) ∙ g) (frameIn rules n l) (framesIn rules (drop (recordSize n) l)) l (rw e))
+      by ended over (long e) before all is few =
+          as-same own before _ _ _ _ (frames-long rules l e) (halted-at (stopped LongLength) over (tallyBy own (sheetOf own before)) is) (as-none own before all few l (stopped LongLength) (rw e))
+      by ended over (early e) before all is few =
+          as-same own before _ _ _ _ (frames-short rules l e) (halted-at waiting over (tallyBy own (sheetOf own before)) is) (as-none own before all few l waiting (rw e))
+
+  takes : (tally : Tally) (l : List ℕ) (n : ℕ) → listWalk rules .cut tally l ≡ whole n → Own (tallyIn rules tally n l) (drop (recordSize n) l) → Own tally l
+  takes tally l n item more before all is few =
       let f : Frame = frameIn rules n l in
       let m : List ℕ = drop (recordSize n) l in
-      let open' : fullOf own (sheetOf own before) ≡ false = sym (ap fullAt is) ∙ g in
+      let e : cutOf l ≡ Record n = front-whole (fullAt tally) l n item .0 in
+      let open' : fullOf own (sheetOf own before) ≡ false = sym (ap fullAt is) ∙ front-whole (fullAt tally) l n item .1 in
       let as-long : n ≡ length (payloadIn n l) = sym (length-take-le n (drop payloadStart l) (omega (arith, whole-at l n e .there, length-drop payloadStart l))) in
       let line : lineIn rules tally n l ≡ lineOf own (heardOf own (sheetOf own before)) (length (payloadIn n l)) (frameRead f) = ap₂ (λ (k bytes : ℕ). lineOf own k bytes (frameRead f)) (ap totalOf is) as-long in
-      as-same own before _ _ _ _ (frames-more rules l n e) (scan-takes rules tally l n e g ∙ ap (λ (text : List ℕ). after text (scanOf rules (tallyIn rules tally n l) m)) line)
-      (as-taken own before all open' f refl (framesIn rules m) (scanOf rules (tallyIn rules tally n l) m)
+      as-same own before _ _ _ _ (frames-more rules l n e)
+      (walk-takes (listWalk rules) (list-sound rules) tally l n item ∙ ap (λ (text : List ℕ). behind text (walkOf (listWalk rules) (tallyIn rules tally n l) m)) line)
+      (as-taken own before all open' f refl (framesIn rules m) (walkOf (listWalk rules) (tallyIn rules tally n l) m)
       (more (before ++ f ∷ []) (own-append own before (f ∷ []) all (refl, tt)) (ap (λ (t : Tally). tallyAfter t (frameOf f)) is ∙ tally-after own before all open' f refl)
       (omega (arith, room own before all open' f refl, length-append before (f ∷ [])))))
 
@@ -130,5 +144,5 @@ module _ (rules : Rules) where
   new-tally : nothingHeard ≡ tallyBy own (sheetOf own [])
   new-tally = ap₂ (λ (a r : ℕ). record { accepted = a; refused = r }) (omega (arith, offered-counted own [])) (omega (arith, offered-counted own []))
 
-  pub as-sheet : (input : List ℕ) → AsSheet (rules .edition) [] (framesIn rules input) (scanOf rules nothingHeard input)
-  as-sheet input = by-records rules Own stops takes nothingHeard input [] tt new-tally (lit≤ tt)
+  pub as-sheet : (input : List ℕ) → AsSheet (rules .edition) [] (framesIn rules input) (walkOf (listWalk rules) nothingHeard input)
+  as-sheet input = by-items (listWalk rules) (list-sound rules) Own stops takes nothingHeard input [] tt new-tally (lit≤ tt)

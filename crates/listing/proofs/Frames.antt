@@ -12,7 +12,7 @@ use Rattle.record.specs.declared.Cut.{Cut}
 use Rattle.record.specs.declared.Cut.the-variants.{Record, TooLong, Short}
 use Rattle.record.specs.Records.{recordSize, cutOf}
 use Rattle.record.proofs.Cuts.{no-length}
-use Rattle.listing.specs.Listing.{frameIn}
+use Rattle.frame.specs.Recorded.{frameIn}
 use Rattle.listing.specs.Offers.{framesAt, framesWithin, framesIn}
 
 module _ (rules : Rules) where

@@ -1,4 +1,3 @@
-pub mod Scans
 pub mod Streaming
 pub mod Taking
 pub mod Scanning

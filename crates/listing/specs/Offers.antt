@@ -14,7 +14,7 @@ use Rattle.sheet.specs.declared.Sheet.{Sheet}
 use Rattle.sheet.specs.Sheets.{acceptedOf, refusedOf, heardOf, fullOf, offerOf}
 use Rattle.lines.specs.declared.Tally.{Tally}
 use Rattle.lines.specs.Lines.{lineOf}
-use Rattle.listing.specs.Listing.{frameIn}
+use Rattle.frame.specs.Recorded.{frameIn}
 
 -- the frames of the whole records of an input, up to the first bytes that are none
 module _ (rules : Rules) where

@@ -3,6 +3,7 @@
 use libc::STDERR_FILENO;
 use packing::Fault;
 use packing::Judged;
+use packing::is_wrong;
 use streams::is_done;
 use streams::read_on;
 use streams::send;
@@ -90,7 +91,7 @@ fn pack(buf: &mut [u8], out: &mut [u8])
         judged = after;
         kept = packed.left;
         let read = filled.next;
-        let next = send(out, packed.to, read, packed.over);
+        let next = send(out, packed.to, read, is_wrong(after));
         ended = is_done(next);
         turns = turns_left(turns, next);
     }

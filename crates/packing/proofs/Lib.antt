@@ -3,11 +3,9 @@ pub mod Judging
 pub mod Putting
 pub mod Lines
 pub mod Fronts
-pub mod Scans
-pub mod Scanning
-pub mod Keeping
-pub mod Closing
 pub mod Letters
 pub mod RoundTrip
-pub mod WholeBack
 pub mod Streaming
+pub mod Scanning
+pub mod Closing
+pub mod WholeBack

@@ -12,17 +12,19 @@ use borrow.Author.Tests.{eq-eqb, ne-eqb, ltb-false}
 use Rattle.base.specs.Lists.{AreBits, placeIn}
 use Rattle.air.specs.Air.{airBits, payloadLimit, firstNoBit}
 use Rattle.air.proofs.Bits.{no-bit-le, are-bits}
+use Rattle.walk.specs.Walks.{whole, behind, walkOf}
+use Rattle.walk.proofs.Walking.{walk-takes}
 use Rattle.record.specs.Records.{lengthOf}
 use Rattle.unpacking.specs.Lines.{bitDigits, hexDigits, headerText, payloadText, textLine}
 use Rattle.packing.specs.declared.Judged.the-variants.{Fine}
 use Rattle.packing.specs.declared.Front.the-variants.{Line}
 use Rattle.packing.specs.Digits.{digitValue, digitsAhead, AreDigits}
 use Rattle.packing.specs.Lines.{longestLine, headerDigits, headerJudged, payloadJudged, judgedOf, headerBytes, recordOf, packedBy, packedParts, endIn, lettersIn, passedOver, headerIn, digitsFrom, digitsIn, packOf}
-use Rattle.packing.specs.Packing.{fineOf, frontOf, after, scanOf}
+use Rattle.packing.specs.Packing.{frontOf, linesAfter, packWalk}
 use Rattle.packing.proofs.Judging.{header-bits, header-digits, payload-whole, judge-on}
 use Rattle.packing.proofs.Lines.{passed-some, end-other, from-space, from-end}
 use Rattle.packing.proofs.Fronts.{next-whole}
-use Rattle.packing.proofs.Scans.{scan-takes}
+use Rattle.packing.proofs.Streaming.{pack-sound}
 use Rattle.packing.proofs.Letters.{AreBytes, bits-length, hex-length, bits-back, hex-back, bits-are, hex-are, ahead-all, Free, digits-free, free-append, free-cons, place-none, place-after}
 
 -- no mark is a digit
@@ -173,13 +175,13 @@ module _ (header payload : List ℕ) (size : length header ≡ airBits) (few : l
   line-back = rw (all-letters, not-passed, parts .header-is, parts .digits-are, both-fine, record-back)
 
   -- and so does the line, whatever follows it
-  pub unpack-pack : (rest : List ℕ) → scanOf (textLine header payload ++ rest) ≡ after recordBytes (scanOf rest)
+  pub unpack-pack : (lines : ℕ) (rest : List ℕ) → walkOf packWalk lines (textLine header payload ++ rest) ≡ behind recordBytes (walkOf packWalk (linesAfter lines 1) rest)
   unfolding textLine line text
-  unpack-pack rest =
-      let whole : List ℕ = line ++ 10 ∷ rest in
-      let at-feed : placeIn whole 10 ≡ length line = place-after 10 line rest (line-free 10 (marks-are-none .0) (omega arith) (λ d. omega arith)) in
-      let here : frontOf whole ≡ Line (length line) = sym (next-whole whole (length line) (sym at-feed) line-few (omega (arith, length-append line (10 ∷ rest)))) in
-      let first : take (length line) whole ≡ line = take-at line (10 ∷ rest) (length line) refl in
-      let well : fineOf (packOf (take (length line) whole) .judged) ≡ true = rw (first, line-back) in
-      let past : drop (length line + 1) whole ≡ rest = drop-append-add line (10 ∷ rest) 1 in
-      rw append-assoc (scan-takes whole (length line) here well ∙ rw (first, line-back, past))
+  unpack-pack lines rest =
+      let all : List ℕ = line ++ 10 ∷ rest in
+      let at-feed : placeIn all 10 ≡ length line = place-after 10 line rest (line-free 10 (marks-are-none .0) (omega arith) (λ d. omega arith)) in
+      let here : frontOf all ≡ Line (length line) = sym (next-whole all (length line) (sym at-feed) line-few (omega (arith, length-append line (10 ∷ rest)))) in
+      let first : take (length line) all ≡ line = take-at line (10 ∷ rest) (length line) refl in
+      let item : packWalk .cut lines all ≡ whole (length line) = rw (here, first, line-back) in
+      let past : drop (length line + 1) all ≡ rest = drop-append-add line (10 ∷ rest) 1 in
+      rw append-assoc (walk-takes packWalk pack-sound lines all (length line) item ∙ rw (first, line-back, past))

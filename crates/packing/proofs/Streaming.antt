@@ -1,28 +1,29 @@
 -- THE RECORDS OF PIECES: however the lines are cut into pieces, the records are those of the whole, and so is what is told at the end.
 -- Assumes nothing.
 use mathlib.Core.Path.{_≡_, refl, sym, ap, _∙_}
-use mathlib.Core.Bool.{Bool, true, false, cond, true≢false}
-use mathlib.Core.List.{List, [], _∷_, _++_, append-assoc, append-nil, flatten}
+use mathlib.Core.Bool.{Bool, true, false, true≢false}
+use mathlib.Core.List.{List, [], _++_, flatten}
 use mathlib.Core.Logic.{⊎-elim}
 use Prim.Native.Nat.{ℕ, _+_, _^_, _<_, _≤_}
 use native.Mathlib.Omega.{arith}
 use lib.Dec.{eqb}
-use lib.ListN.{length, take, drop, length-append, List·getD-append}
-use lib.Seq.{take-append-le, drop-append-le}
+use lib.ListN.{length, take, length-append, List·getD-append}
+use lib.Seq.{take-append-le}
 use Rattle.base.specs.Lists.{placeIn}
 use Rattle.base.proofs.Lowest.{lowest-is, lowest-only}
 use Rattle.base.proofs.Tests.{lt-or-ge}
+use Rattle.walk.specs.Walks.{Front as WalkFront, whole, stops, waits, Ended, waiting, stopped}
+use Rattle.walk.proofs.Walking.{Sound}
+use Rattle.walk.proofs.Feeding.{fed-whole}
 use Rattle.packing.specs.declared.Judged.{Judged}
 use Rattle.packing.specs.declared.Judged.the-variants.{Fine, Wrong}
-use Rattle.packing.specs.declared.Fault.the-variants.{LongLine}
-use Rattle.packing.specs.declared.Front.the-variants.{Line, TooLong}
+use Rattle.packing.specs.declared.Front.{Front}
+use Rattle.packing.specs.declared.Front.the-variants.{Line, TooLong, Unended}
 use Rattle.packing.specs.Lines.{longestLine, packOf}
-use Rattle.packing.specs.Packing.{fineOf, frontOf, Scan, stay, after, scanOf}
-use Rattle.packing.specs.Pieces.{Told, behind, linesAfter, closedOf, endsAt, goesOn, wholePacked, fedOf, streamedOf}
+use Rattle.packing.specs.Packing.{frontOf, judgedFront, linesAfter, lineFront, packWalk, scanOf}
+use Rattle.packing.specs.Pieces.{closedOf, wholePacked, streamedOf}
 use Rattle.packing.proofs.Digits.{isMark, place-inside}
-use Rattle.packing.proofs.Fronts.{next-long, next-whole, LineAt, line-at, long-at, no-bytes}
-use Rattle.packing.proofs.Scans.{lineIn, Stopped, wrong, long, open', scan-stops, scan-takes, by-lines, scan-stopped, fine-is}
-use Rattle.packing.proofs.Scanning.{further}
+use Rattle.packing.proofs.Fronts.{next-long, next-whole, LineAt, line-at, long-at, unended-at, no-bytes}
 
 -- WHAT STANDS AT THE FRONT STAYS, whatever follows, unless the line has not ended
 module _ (mark : ℕ) (l f : List ℕ) where
@@ -70,90 +71,75 @@ module _ (l f : List ℕ) where
     letters-stay : take n (l ++ f) ≡ take n l
     letters-stay = take-append-le n l f (omega (arith, so .there))
 
-    rest-stays : drop (n + 1) (l ++ f) ≡ drop (n + 1) l ++ f
-    rest-stays = drop-append-le (n + 1) l f (omega (arith, so .there))
+-- WHAT A FRONT SAYS of the bytes
+whole-stops : {i : ℕ} {why : Judged} → whole i ≡ stops why → ⊥
+whole-stops e = let z : _≡_ {A = ℕ} 0 1 = cc in omega arith
 
--- what becomes of some bytes and of those that follow, from what became of the former
-abbrev pub resumed : Scan → List ℕ → Scan
-resumed r f =
-    cond (fineOf (r .judged)) (further (r .lines) (r .bytes) (scanOf (r .rest ++ f)))
-    (record { lines = r .lines; bytes = r .bytes; rest = r .rest ++ f; judged = r .judged })
+whole-waits : {i : ℕ} → _≡_ {A = WalkFront ℕ Judged} (whole i) waits → ⊥
+whole-waits e = let z : _≡_ {A = ℕ} 0 1 = cc in omega arith
 
-resumed-after : (bytes : List ℕ) (r : Scan) (f : List ℕ) → after bytes (resumed r f) ≡ resumed (after bytes r) f
-resumed-after bytes r f = by (fineOf (r .judged)) refl
+stops-waits : {why : Judged} → _≡_ {A = WalkFront ℕ Judged} (stops why) waits → ⊥
+stops-waits e = let z : _≡_ {A = ℕ} 0 1 = cc in omega arith
+
+judged-whole : (m n : ℕ) (j : Judged) → judgedFront m j ≡ whole n → m ≡ n
+judged-whole m n Fine e = cc
+judged-whole m n (Wrong fault column) e = absurd (whole-stops (sym e))
+
+judged-waits : (m : ℕ) (j : Judged) → judgedFront m j ≡ waits → ⊥
+judged-waits m Fine e = whole-waits e
+judged-waits m (Wrong fault column) e = stops-waits e
+
+front-whole : (l : List ℕ) (n : ℕ) → lineFront l (frontOf l) ≡ whole n → frontOf l ≡ Line n
+front-whole l n e = by (frontOf l) refl e
   where
-    by : (b : Bool) → fineOf (r .judged) ≡ b → after bytes (resumed r f) ≡ resumed (after bytes r) f
-    by false e = rw e
-    by true e =
-        let s : Scan = scanOf (r .rest ++ f) in
-        let count : 1 + (r .lines + s .lines) ≡ 1 + r .lines + s .lines = omega arith in
-        rw (e, append-assoc, count)
+    by : (f : Front) → frontOf l ≡ f → lineFront l f ≡ whole n → frontOf l ≡ Line n
+    by (Line m) is e = is ∙ ap Line (judged-whole m n (packOf (take m l) .judged) e)
+    by TooLong is e = absurd (whole-stops (sym e))
+    by Unended is e = absurd (whole-waits (sym e))
 
-idle : (f l : List ℕ) → scanOf (l ++ f) ≡ resumed (stay l Fine) f
-idle f l = let none : 0 + scanOf (l ++ f) .lines ≡ scanOf (l ++ f) .lines = omega arith in rw none
-
-pub scan-append : (f l : List ℕ) → scanOf (l ++ f) ≡ resumed (scanOf l) f
-scan-append f = by-lines (λ l. scanOf (l ++ f) ≡ resumed (scanOf l) f) stops takes
+front-waits : (l : List ℕ) → lineFront l (frontOf l) ≡ waits → frontOf l ≡ Unended
+front-waits l e = by (frontOf l) refl e
   where
-    stops : (l : List ℕ) (j : Judged) → Stopped l j → scanOf (l ++ f) ≡ resumed (scanOf l) f
-    stops l j (wrong {n} e g) =
-        let letters = letters-stay l f n e in
-        let bad : fineOf (lineIn n (l ++ f) .judged) ≡ false = ap (λ (k : List ℕ). fineOf (packOf k .judged)) letters ∙ g in
-        scan-stops (l ++ f) (lineIn n (l ++ f) .judged) (wrong (line-stays l f n e) bad) ∙ rw (scan-stops l (lineIn n l .judged) (wrong e g), letters, g)
-    stops l j (long e) =
-        scan-stops (l ++ f) (Wrong LongLine (longestLine + 1)) (long (long-stays l f e)) ∙ rw (scan-stops l (Wrong LongLine (longestLine + 1)) (long e))
-    stops l j (open' e) = idle f l ∙ ap (λ (r : Scan). resumed r f) (sym (scan-stops l Fine (open' e)))
+    by : (f : Front) → frontOf l ≡ f → lineFront l f ≡ waits → frontOf l ≡ Unended
+    by Unended is e = is
+    by TooLong is e = absurd (stops-waits e)
+    by (Line m) is e = absurd (judged-waits m (packOf (take m l) .judged) e)
 
-    takes : (l : List ℕ) (n : ℕ) → frontOf l ≡ Line n → fineOf (lineIn n l .judged) ≡ true → scanOf (drop (n + 1) l ++ f) ≡ resumed (scanOf (drop (n + 1) l)) f
-        → scanOf (l ++ f) ≡ resumed (scanOf l) f
-    takes l n e g more =
-        let letters = letters-stay l f n e in
-        let good : fineOf (lineIn n (l ++ f) .judged) ≡ true = ap (λ (k : List ℕ). fineOf (packOf k .judged)) letters ∙ g in
-        scan-takes (l ++ f) n (line-stays l f n e) good
-        ∙ rw (letters, rest-stays l f n e, more, scan-takes l n e g) (resumed-after (lineIn n l .bytes) (scanOf (drop (n + 1) l)) f)
+-- unless the line has not ended
+front-stays : (l f : List ℕ) (front : WalkFront ℕ Judged) → (front ≡ waits → ⊥) → lineFront l (frontOf l) ≡ front → lineFront (l ++ f) (frontOf (l ++ f)) ≡ front
+front-stays l f front told e = by (frontOf l) refl e
+  where
+    by : (at : Front) → frontOf l ≡ at → lineFront l at ≡ front → lineFront (l ++ f) (frontOf (l ++ f)) ≡ front
+    by (Line n) is e = ap (lineFront (l ++ f)) (line-stays l f n is) ∙ ap (λ (line : List ℕ). judgedFront n (packOf line .judged)) (letters-stay l f n is) ∙ e
+    by TooLong is e = ap (lineFront (l ++ f)) (long-stays l f is) ∙ e
+    by Unended is e = absurd (told (sym e))
 
--- lines are counted on, however many at once
-count-on : (lines a b : ℕ) → linesAfter (linesAfter lines a) b ≡ linesAfter lines (a + b)
-count-on lines a b = omega arith
+-- what is left where more lines may come is no longer than a line
+pub waits-short : (lines : ℕ) (l : List ℕ) → packWalk .cut lines l ≡ waits → length l < longestLine + 1
+waits-short lines l e = omega (arith, unended-at l (front-waits l e))
 
--- a wrong line ends it, whatever follows
-wrong-ends : (lines : ℕ) (j : Judged) (rest other : List ℕ) → fineOf j ≡ false → closedOf lines j rest ≡ closedOf lines j other
-wrong-ends lines Fine rest other e = absurd (true≢false e)
-wrong-ends lines (Wrong fault column) rest other e = refl
-
--- a piece, and what follows
-module _ (lines : ℕ) (s : Scan) (f : List ℕ) (next : ℕ → List ℕ → Told) where
-  abbrev after-piece : ℕ
-  after-piece = linesAfter lines (s .lines)
-
-  one-piece : (fineOf (s .judged) ≡ true → next after-piece (s .rest) ≡ endsAt after-piece (scanOf (s .rest ++ f))) → goesOn lines s next ≡ endsAt lines (resumed s f)
-  one-piece more = by (fineOf (s .judged)) refl more
-    where
-      by : (b : Bool) → fineOf (s .judged) ≡ b → (b ≡ true → next after-piece (s .rest) ≡ endsAt after-piece (scanOf (s .rest ++ f))) → goesOn lines s next ≡ endsAt lines (resumed s f)
-      by false e more = rw e (ap (behind (s .bytes)) (wrong-ends after-piece (s .judged) (s .rest) (s .rest ++ f) e))
-      by true e more =
-          let t : Scan = scanOf (s .rest ++ f) in
-          rw (e, more refl, ← count-on lines (s .lines) (t .lines), append-assoc)
-
--- where nothing is wrong, what is left is packed no further by itself
-rest-idle : (l : List ℕ) → fineOf (scanOf l .judged) ≡ true → scanOf (scanOf l .rest) ≡ stay (scanOf l .rest) Fine
-rest-idle l e = scan-stops (scanOf l .rest) (scanOf l .judged) (scan-stopped l) ∙ ap (stay (scanOf l .rest)) (fine-is (scanOf l .judged) e)
-
-fed-is : (pieces : List (List ℕ)) (lines : ℕ) (kept : List ℕ) → scanOf kept ≡ stay kept Fine → fedOf lines kept pieces ≡ endsAt lines (scanOf (kept ++ flatten pieces))
-unfolding flatten
-fed-is [] lines kept quiet = rw (append-nil, quiet, count-on lines 0 1)
-fed-is (piece ∷ pieces) lines kept quiet =
-    let s : Scan = scanOf (kept ++ piece) in
-    one-piece lines s (flatten pieces) (λ n k. fedOf n k pieces) (λ e. fed-is pieces (linesAfter lines (s .lines)) (s .rest) (rest-idle (kept ++ piece) e))
-    ∙ ap (endsAt lines) (sym (scan-append (flatten pieces) (kept ++ piece)) ∙ ap scanOf (append-assoc kept piece (flatten pieces)))
+pub pack-sound : Sound packWalk
+pack-sound = record {
+  some = λ s l n e. omega arith;
+  there = λ s l n e. omega (arith, line-at l n (front-whole l n e) .there);
+  none = λ s. ap (lineFront []) (no-bytes [] (omega arith));
+  whole-stays = λ s l f n e. front-stays l f (whole n) whole-waits e;
+  stop-stays = λ s l f why e. front-stays l f (stops why) stops-waits e;
+  next-stays = λ s l f n e. refl;
+  text-stays = λ s l f n e. ap (λ (line : List ℕ). packOf line .bytes) (letters-stay l f n (front-whole l n e));
+}
 
 -- however the lines are cut into pieces, the records that are written are those of the whole, and the same line is told, and what is
 -- wrong with it
 pub whole-packing : (pieces : List (List ℕ)) → streamedOf pieces ≡ wholePacked (flatten pieces)
 unfolding streamedOf wholePacked
-whole-packing pieces = fed-is pieces 0 [] (scan-stops [] Fine (open' (no-bytes [] (omega arith))))
+whole-packing pieces = fed-whole packWalk pack-sound closedOf (λ s l f why e. refl) 0 pieces
 
 -- the line that is told is the one after those that were packed
-pub told-line : (input : List ℕ) → scanOf input .lines + 1 < 2 ^ 64 → wholePacked input .line ≡ scanOf input .lines + 1
+closed-line : (lines : ℕ) (ended : Ended Judged) (rest : List ℕ) → closedOf lines ended rest .told .line ≡ linesAfter lines 1
+closed-line lines waiting rest = refl
+closed-line lines (stopped judged) rest = refl
+
+pub told-line : (input : List ℕ) → scanOf input .state + 1 < 2 ^ 64 → wholePacked input .told .line ≡ scanOf input .state + 1
 unfolding wholePacked
-told-line input small = omega arith
+told-line input small = omega (arith, closed-line (scanOf input .state) (scanOf input .ended) (scanOf input .rest))

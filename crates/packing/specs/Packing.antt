@@ -1,12 +1,13 @@
--- The records of the lines of a whole input, and of an input that comes in pieces.
+-- The records of lines one after the other.
 -- Assumes nothing.
-use mathlib.Core.Bool.{Bool, true, false, cond}
-use mathlib.Core.List.{List, [], _∷_, _++_}
-use Prim.Native.Nat.{ℕ, zero, suc, _+_}
+use mathlib.Core.Bool.{Bool, true, false}
+use mathlib.Core.List.{List, [], _∷_}
+use Prim.Native.Nat.{ℕ, _+_, _%_, _^_}
 use lib.Dec.{ltb}
-use lib.ListN.{length, take, drop}
+use lib.ListN.{length, take}
 use Rattle.base.specs.Checks.{check, first}
 use Rattle.base.specs.Lists.{placeIn}
+use Rattle.walk.specs.Walks.{Front as WalkFront, whole, stops, waits, Walk, Ended, waiting, stopped, Walked, walkOf}
 use Rattle.packing.specs.declared.Judged.{Judged}
 use Rattle.packing.specs.declared.Judged.the-variants.{Fine, Wrong}
 use Rattle.packing.specs.declared.Fault.the-variants.{LongLine}
@@ -14,10 +15,10 @@ use Rattle.packing.specs.declared.Front.{Front}
 use Rattle.packing.specs.declared.Front.the-variants.{Line, TooLong, Unended}
 use Rattle.packing.specs.Lines.{longestLine, packOf}
 
--- whether nothing is wrong
-abbrev pub fineOf : Judged → Bool
-fineOf Fine = true
-fineOf (Wrong fault column) = false
+-- whether a line is wrong
+abbrev pub wrongOf : Judged → Bool
+wrongOf Fine = false
+wrongOf (Wrong fault column) = true
 
 -- what stands at the front of some bytes: a line ends at the first line feed
 unfoldable pub frontOf : List ℕ → Front
@@ -27,34 +28,29 @@ frontOf l =
     ∷ check (ltb (placeIn l 10) (length l)) (Line (placeIn l 10))
     ∷ [])
 
--- what became of some bytes: how many of their lines were packed, the records, the bytes after these lines, and what is wrong with the
--- next line
-pub record Scan : Type 0 where
-  pub lines : ℕ
-  pub bytes : List ℕ
-  pub rest : List ℕ
-  pub judged : Judged
+-- so many lines, and some more: a number past 2^64, which no input reaches, would wrap
+abbrev pub linesAfter : ℕ → ℕ → ℕ
+linesAfter lines more = (lines + more) % 2 ^ 64
 
--- no line is packed
-abbrev pub stay : List ℕ → Judged → Scan
-stay l judged = record { lines = 0; bytes = []; rest = l; judged = judged }
+-- a whole line is packed where it is well, and a wrong one stops what is packed
+abbrev pub judgedFront : ℕ → Judged → WalkFront ℕ Judged
+judgedFront n Fine = whole n
+judgedFront n (Wrong fault column) = stops (Wrong fault column)
 
--- a line's bytes, and then what became of some bytes
-abbrev pub after : List ℕ → Scan → Scan
-after bytes s = record { lines = 1 + s .lines; bytes = bytes ++ s .bytes; rest = s .rest; judged = s .judged }
+abbrev pub lineFront : List ℕ → Front → WalkFront ℕ Judged
+lineFront l (Line n) = judgedFront n (packOf (take n l) .judged)
+lineFront l TooLong = stops (Wrong LongLine (longestLine + 1))
+lineFront l Unended = waits
 
--- a whole line is packed where it is well
-abbrev pub packAt : List ℕ → Front → (List ℕ → Scan) → Scan
-packAt l (Line n) next =
-    cond (fineOf (packOf (take n l) .judged)) (after (packOf (take n l) .bytes) (next (drop (n + 1) l))) (stay l (packOf (take n l) .judged))
-packAt l TooLong next = stay l (Wrong LongLine (longestLine + 1))
-packAt l Unended next = stay l Fine
+-- lines one after the other: how many there were is kept, and a line's text is its record
+abbrev pub packWalk : Walk ℕ ℕ Judged
+packWalk = record { cut = λ lines l. lineFront l (frontOf l); size = λ n. n + 1; next = λ lines n l. linesAfter lines 1; text = λ lines n l. packOf (take n l) .bytes }
 
--- at most so many lines, one after the other
-abbrev pub scanIn : ℕ → List ℕ → Scan
-scanIn zero l = stay l Fine
-scanIn (suc most) l = packAt l (frontOf l) (scanIn most)
+-- how it ended, by what is wrong with the next line
+abbrev pub judgedEnds : Judged → Ended Judged
+judgedEnds Fine = waiting
+judgedEnds (Wrong fault column) = stopped (Wrong fault column)
 
--- all of them: there are no more lines than bytes
-unfoldable pub scanOf : List ℕ → Scan
-scanOf l = scanIn (length l) l
+-- what becomes of some bytes, the first lines being counted from 0
+abbrev pub scanOf : List ℕ → Walked ℕ Judged
+scanOf l = walkOf packWalk 0 l

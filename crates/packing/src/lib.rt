@@ -2,7 +2,7 @@
 use air::AIR_BITS;
 use air::LONGEST_PAYLOAD;
 ghost use mathlib.Core.Path.{_≡_};
-ghost use mathlib.Core.Bool.{true};
+ghost use mathlib.Core.Bool.{false};
 ghost use Prim.Native.Nat.{_+_, _*_, _<_, _≤_};
 ghost use lib.ListN.{length};
 ghost use Rattle.air.specs.Air.{payloadLimit};
@@ -11,9 +11,10 @@ ghost use Rattle.text.specs.Text.{Put};
 ghost use Rattle.record.specs.Records.{lengthOf};
 ghost use Rattle.packing.specs.Digits.{digitValue, digitsAhead, AreDigits, bitsIn, bytesIn};
 ghost use Rattle.packing.specs.Lines.{longestLine, headerJudged, payloadJudged, judgedOf, headerBytes, recordOf, endIn, passedOver, digitsFrom};
-ghost use Rattle.packing.specs.Packing.{frontOf, fineOf};
+ghost use Rattle.walk.specs.Scans.{Scanned, Turned};
+ghost use Rattle.packing.specs.Packing.{frontOf, wrongOf, packWalk, judgedEnds};
 ghost use Rattle.packing.specs.Pieces.{opened};
-ghost use Rattle.packing.specs.Promises.{PacksParts, Packs, Scanned, Turns, Closes};
+ghost use Rattle.packing.specs.Promises.{PacksParts, Packs, Closes};
 
 // The most letters of a line before its line feed, also of one that is passed over. The longest line of a record has 2,467.
 pub const LONGEST_LINE: usize = 4095;
@@ -54,23 +55,13 @@ pub struct Packed {
     pub to: usize,
 }
 
-// The lines of some bytes were packed: how many, how many bytes are left, the place after the records, and whether the line that is
-// left is wrong.
+// Some lines were packed: the lines before what is left, how many bytes are left, the place after the records, and what is wrong with the
+// line that is left.
 pub struct PackedLines {
-    pub lines: usize,
-    pub left: usize,
-    pub to: usize,
-    pub judged: Judged,
-}
-
-// A piece was packed: the lines before what is left of it, how many bytes are left, the place after the records, whether the line that
-// is left is wrong, and so whether no more lines are packed.
-pub struct PackedPiece {
     pub lines: u64,
     pub left: usize,
     pub to: usize,
     pub judged: Judged,
-    pub over: bool,
 }
 
 // The input has ended, or a line is wrong: the place after the last record, and the number of the line that was judged.
@@ -382,22 +373,23 @@ fn next_line(rest: &[u8]) -> Front
     Front::Unended
 }
 
-pub fn is_fine(judged: Judged) -> bool
-    ensures { λ r. ⌜ r ≡ fineOf judged ⌝ }
+// Whether a line is wrong, so that no more are packed.
+pub fn is_wrong(judged: Judged) -> bool
+    ensures { λ r. ⌜ r ≡ wrongOf judged ⌝ }
 {
     match judged {
-        Judged::Fine => true,
-        Judged::Wrong { .. } => false,
+        Judged::Fine => false,
+        Judged::Wrong { .. } => true,
     }
 }
 
 // All whole lines at the front of a piece, up to the first that is wrong: their records go into `out` from `at` on. A record is less
-// than twice as long as its line.
-pub fn pack_lines(piece: &[u8], out: &mut [u8], at: usize) -> PackedLines
+// than twice as long as its line. `start` lines came before; a number of lines past 2^64, which no input reaches, would wrap.
+pub fn pack_lines(start: u64, piece: &[u8], out: &mut [u8], at: usize) -> PackedLines
     requires { ⌜ at + 2 * length (now piece) ≤ length (now out) ⌝ }
-    ensures { λ r. ⌜ Scanned (now (piece .entry)) (now (out .entry)) at (now (out .exit)) r ⌝ }
+    ensures { λ r. ⌜ Scanned packWalk 2 start (now (piece .entry)) (now (out .entry)) at (now (out .exit)) (r .lines) (r .left) (r .to) (judgedEnds (r .judged)) ⌝ }
 {
-    let mut lines = 0;
+    let mut lines = start;
     let mut used = 0;
     let mut to = at;
     loop {
@@ -407,12 +399,13 @@ pub fn pack_lines(piece: &[u8], out: &mut [u8], at: usize) -> PackedLines
                 let packed = pack_line(&rest[..end], out, to);
                 to = packed.to;
                 let judged = packed.judged;
-                if is_fine(judged) {
-                    lines += 1;
+                if is_wrong(judged) {
+                    judged
+                } else {
+                    lines = std::num::wrapping_add_u64(lines, 1);
                     used += end + 1;
                     continue;
                 }
-                judged
             }
             Front::TooLong => Judged::Wrong {
                 fault: Fault::LongLine,
@@ -438,44 +431,37 @@ pub fn open() -> Judged
 }
 
 // The first `end` bytes of a buffer, after so many lines: the records of their lines go into `out`, and what is left goes to the buffer's
-// front. A number of lines past 2^64, which no input reaches, would wrap.
-pub fn pack_piece(lines: u64, buf: &mut [u8], end: usize, out: &mut [u8]) -> PackedPiece
+// front.
+pub fn pack_piece(lines: u64, buf: &mut [u8], end: usize, out: &mut [u8]) -> PackedLines
     requires { ⌜ end ≤ length (now buf) ⌝ }
     requires { ⌜ 2 * end ≤ length (now out) ⌝ }
-    ensures { λ r. ⌜ Turns lines (now (buf .entry)) end (now (out .entry)) (now (buf .exit)) (now (out .exit)) r ⌝ }
+    ensures { λ r. ⌜ Turned packWalk 2 lines (now (buf .entry)) end (now (out .entry)) (now (buf .exit)) (now (out .exit)) (r .lines) (r .left) (r .to) (judgedEnds (r .judged)) ⌝ }
 {
-    let packed = pack_lines(&buf[..end], out, 0);
+    let packed = pack_lines(lines, &buf[..end], out, 0);
     let left = packed.left;
-    record::keep(buf, end - left, left);
-    let judged = packed.judged;
-    PackedPiece {
-        lines: std::num::wrapping_add_u64(lines, packed.lines as u64),
-        left,
-        to: packed.to,
-        judged,
-        over: !is_fine(judged),
-    }
+    walk::keep(buf, end - left, left);
+    packed
 }
 
 // After so many lines the input has ended, or a line is wrong. Where none is, the rest is a last line that no line feed ended, and its
 // record goes to the front of `out`.
 pub fn close(lines: u64, judged: Judged, rest: &[u8], out: &mut [u8]) -> Ended
-    requires { ⌜ (fineOf judged ≡ true → length (now rest) ≤ longestLine) ⌝ }
+    requires { ⌜ (wrongOf judged ≡ false → length (now rest) ≤ longestLine) ⌝ }
     requires { ⌜ 2 * length (now rest) ≤ length (now out) ⌝ }
     ensures { λ r. ⌜ Closes lines judged (now (rest .entry)) (now (out .entry)) (now (out .exit)) r ⌝ }
 {
     let line = std::num::wrapping_add_u64(lines, 1);
-    if is_fine(judged) {
-        let last = pack_line(rest, out, 0);
-        let judged = last.judged;
+    if is_wrong(judged) {
         return Ended {
-            to: last.to,
+            to: 0,
             line,
             judged,
         };
     }
+    let last = pack_line(rest, out, 0);
+    let judged = last.judged;
     Ended {
-        to: 0,
+        to: last.to,
         line,
         judged,
     }

@@ -3,6 +3,7 @@
 use air::MOST_FLIPS;
 use base::Edition;
 use header::Rules;
+use record::is_over;
 use streams::is_done;
 use streams::read_on;
 use streams::send;
@@ -41,7 +42,8 @@ fn list(table: &[u16; TABLE_ROWS], rules: Rules, buf: &mut [u8], out: &mut [u8])
         counts = listed.counts;
         kept = listed.left;
         let read = filled.next;
-        let next = send(out, listed.to, read, listed.over);
+        let ending = listed.ending;
+        let next = send(out, listed.to, read, is_over(ending));
         ended = is_done(next);
         turns = turns_left(turns, next);
     }

@@ -13,7 +13,7 @@ use Rattle.frame.proofs.Rules.{frame-answer}
 use Rattle.page.specs.Payload.{pageOf}
 use Rattle.page.specs.declared.PageAnswer.{PageAnswer}
 use Rattle.record.specs.Records.{payloadStart, payloadIn, recordSize}
-use Rattle.listing.specs.Listing.{frameIn}
+use Rattle.frame.specs.Recorded.{frameIn}
 use Rattle.page_lines.specs.declared.Counts.{Counts}
 use Rattle.page_lines.specs.Counting.{recordsHeard, countedOf}
 use Rattle.page_lines.specs.Lines.{recordLines}

@@ -1,5 +1,6 @@
 -- The listing of the pages of a whole input, and of one that comes in pieces.
 -- Assumes nothing.
+use mathlib.Core.Bool.{Bool}
 use mathlib.Core.List.{List, [], _++_}
 use Prim.Native.Nat.{ℕ}
 use lib.Dec.{leb}
@@ -10,8 +11,10 @@ use Rattle.frame.specs.Frames.{frameOf}
 use Rattle.page.specs.Payload.{pageOf}
 use Rattle.page.specs.declared.PageAnswer.{PageAnswer}
 use Rattle.record.specs.Records.{payloadIn}
-use Rattle.record.specs.Walks.{Walk, toldOf, fedOf, walkOf}
-use Rattle.listing.specs.Listing.{listedRules, frameIn}
+use Rattle.record.specs.declared.Ending.{Ending}
+use Rattle.record.specs.Walks.{recordWalk}
+use Rattle.walk.specs.Walks.{Walk, closedBy, toldOf, walkOf, fedOf}
+use Rattle.frame.specs.Recorded.{listedRules, frameIn}
 use Rattle.page_lines.specs.declared.Counts.{Counts}
 use Rattle.page_lines.specs.Counting.{noCounts, recordsHeard, countedOf}
 use Rattle.page_lines.specs.Lines.{title, recordLines, closingOf}
@@ -28,6 +31,10 @@ pageRules = listedRules Flown
 abbrev pub pageIn : ℕ → List ℕ → PageAnswer
 pageIn n l = pageOf (payloadIn n l)
 
+-- whether a sheet is full that was offered so many
+abbrev pub pagesFull : Counts → Bool
+pagesFull c = leb fullSheet (recordsHeard c)
+
 module _ (rules : Rules) where
   -- the counts after the record at the front, and its lines
   abbrev pub countsIn : Counts → ℕ → List ℕ → Counts
@@ -37,13 +44,13 @@ module _ (rules : Rules) where
   linesIn c n l = recordLines (recordsHeard c) (pageIn n l) (frameOf (frameIn rules n l))
 
   -- records one after the other, until a sheet is full
-  abbrev pub pageWalk : Walk Counts
-  pageWalk = record { full = λ c. leb fullSheet (recordsHeard c); next = countsIn; text = linesIn }
+  abbrev pub pageWalk : Walk Counts ℕ Ending
+  pageWalk = recordWalk pagesFull countsIn linesIn
 
   -- the listing of a whole input
   unfoldable pub pagesOf : List ℕ → List ℕ
-  pagesOf input = title ++ toldOf closingOf (walkOf pageWalk noCounts input)
+  pagesOf input = title ++ toldOf (closedBy closingOf) (walkOf pageWalk noCounts input) .text
 
   -- what is written for an input that comes in pieces
   unfoldable pub pagesFed : List (List ℕ) → List ℕ
-  pagesFed pieces = title ++ fedOf pageWalk closingOf noCounts [] pieces
+  pagesFed pieces = title ++ fedOf pageWalk (closedBy closingOf) noCounts [] pieces .text

@@ -1,5 +1,4 @@
 pub mod Cuts
 pub mod Stays
-pub mod Moving
 pub mod Walking
-pub mod Feeding
+pub mod Scanning

@@ -1,99 +1,144 @@
--- Records one after the other, whatever is made of each: how many are allowed at most does not matter, and one is taken at a time.
+-- A walk over records is sound, whatever is made of each: what stands at the front stays, whatever follows.
 -- Assumes nothing.
 use mathlib.Core.Path.{_≡_, refl, sym, ap, _∙_}
-use mathlib.Core.Bool.{Bool, true, false, cond}
-use mathlib.Core.List.{List}
-use Prim.Native.Nat.{ℕ, zero, suc, _+_, _≤_, _<_, zero-le}
-use native.Mathlib.Nat.{le-refl}
+use mathlib.Core.Bool.{Bool, true, false, cond, true≢false}
+use mathlib.Core.List.{List, [], _++_}
+use Prim.Native.Nat.{ℕ, _+_, _<_, _≤_}
 use native.Mathlib.Omega.{arith}
-use lib.ListN.{length, drop, length-drop}
-use lib.Seq.{drop-drop}
+use borrow.Author.Tests.{lt-ltb}
+use lib.Dec.{lit<, ltb}
+use lib.ListN.{length, length-append}
 use Rattle.air.specs.Air.{payloadLimit}
+use Rattle.walk.specs.Walks.{Front, whole, stops, waits, Walk, Ended, waiting, stopped, closedBy}
+use Rattle.walk.specs.Scans.{Scanned}
+use Rattle.walk.proofs.Walking.{Sound, Stopped, halted, short}
+use Rattle.walk.proofs.Keeping.{left-short}
 use Rattle.record.specs.declared.Cut.{Cut}
 use Rattle.record.specs.declared.Cut.the-variants.{Record, TooLong, Short}
+use Rattle.record.specs.declared.Ending.{Ending}
+use Rattle.record.specs.declared.Ending.the-variants.{Waits, Full, TooLong as LongLength}
 use Rattle.record.specs.Records.{recordSize, cutOf}
-use Rattle.record.specs.Walks.{Walk, Walked, halt, behind, walkAt, walkIn, walkOf}
-use Rattle.record.proofs.Cuts.{no-length, whole-at, short-at}
+use Rattle.record.specs.Walks.{recordFront, recordWalk, endedAs, overOf}
+use Rattle.record.proofs.Cuts.{no-length, whole-at, long-at, short-at}
+use Rattle.record.proofs.Stays.{long-stays, whole-stays}
 
--- the bytes that are left when no record is taken any more, and whether whatever follows changes that
-pub data Stopped {S : Type 0} (walk : Walk S) (s : S) (l : List ℕ) : Bool → Type 0 where
-  full : {n : ℕ} → cutOf l ≡ Record n → walk .full s ≡ true → Stopped walk s l true
-  long : cutOf l ≡ TooLong → Stopped walk s l true
-  short : cutOf l ≡ Short → Stopped walk s l false
+-- three ways to stand at the front
+whole-stops : {i : ℕ} {why : Ending} → whole i ≡ stops why → ⊥
+whole-stops e = let z : _≡_ {A = ℕ} 0 1 = cc in omega arith
 
-pub stopped-short : {S : Type 0} (walk : Walk S) (s : S) (l : List ℕ) → Stopped walk s l false → length l < recordSize payloadLimit
-stopped-short walk s l (short e) = short-at l e
+whole-waits : {i : ℕ} → _≡_ {A = Front ℕ Ending} (whole i) waits → ⊥
+whole-waits e = let z : _≡_ {A = ℕ} 0 1 = cc in omega arith
 
--- what is left is the end of the bytes
-pub record Suffix (l rest : List ℕ) : Type 0 where
-  pub skip : ℕ
-  pub inside : skip ≤ length l
-  pub is : drop skip l ≡ rest
+stops-waits : {why : Ending} → _≡_ {A = Front ℕ Ending} (stops why) waits → ⊥
+stops-waits e = let z : _≡_ {A = ℕ} 0 1 = cc in omega arith
 
-module _ {S : Type 0} (walk : Walk S) where
-  -- what is done with the bytes after the first record matters only there
-  at-same : (s : S) (l : List ℕ) (more other : S → List ℕ → Walked S)
-      → ((t : S) (n : ℕ) → more t (drop (recordSize n) l) ≡ other t (drop (recordSize n) l)) → (c : Cut) → walkAt walk s l c more ≡ walkAt walk s l c other
-  at-same s l more other same (Record n) = ap (λ (w : Walked S). cond (walk .full s) (halt s l true) (behind (walk .text s n l) w)) (same (walk .next s n l) n)
-  at-same s l more other same TooLong = refl
-  at-same s l more other same Short = refl
+-- what a front says of the bytes
+pub front-whole : (full : Bool) (l : List ℕ) (n : ℕ) → recordFront full (cutOf l) ≡ whole n → (cutOf l ≡ Record n) × (full ≡ false)
+front-whole full l n e = by full (cutOf l) refl e
+  where
+    by : (b : Bool) (c : Cut) → cutOf l ≡ c → recordFront b c ≡ whole n → (cutOf l ≡ Record n) × (b ≡ false)
+    by false (Record m) is e = let same : m ≡ n = cc in (is ∙ ap Record same, refl)
+    by true (Record m) is e = absurd (whole-stops (sym e))
+    by b TooLong is e = absurd (whole-stops (sym e))
+    by b Short is e = absurd (whole-waits (sym e))
 
-  none-in : (most : ℕ) (s : S) (l : List ℕ) → length l ≤ 0 → walkIn walk most s l ≡ halt s l false
-  none-in zero s l h = refl
-  none-in (suc most) s l h = rw (← no-length l (omega arith))
+front-waits : (full : Bool) (l : List ℕ) → recordFront full (cutOf l) ≡ waits → cutOf l ≡ Short
+front-waits full l e = by full (cutOf l) refl e
+  where
+    by : (b : Bool) (c : Cut) → cutOf l ≡ c → recordFront b c ≡ waits → cutOf l ≡ Short
+    by b Short is e = is
+    by b TooLong is e = absurd (stops-waits e)
+    by true (Record m) is e = absurd (stops-waits e)
+    by false (Record m) is e = absurd (whole-waits e)
 
-  -- as many records as there are bytes are enough
-  enough : (j k : ℕ) (s : S) (l : List ℕ) → length l ≤ j → length l ≤ k → walkIn walk j s l ≡ walkIn walk k s l
-  enough zero k s l a b = sym (none-in k s l a)
-  enough (suc j) zero s l a b = none-in (suc j) s l b
-  enough (suc j) (suc k) s l a b =
-      at-same s l (walkIn walk j) (walkIn walk k) (λ t n. enough j k t (drop (recordSize n) l) (omega (arith, length-drop (recordSize n) l)) (omega (arith, length-drop (recordSize n) l))) (cutOf l)
+-- a stop leaves something, and stays
+pub front-stops : (full : Bool) (l f : List ℕ) (why : Ending) → recordFront full (cutOf l) ≡ stops why → (0 < length l) × (recordFront full (cutOf (l ++ f)) ≡ stops why)
+front-stops full l f why e = by full (cutOf l) refl e
+  where
+    by : (b : Bool) (c : Cut) → cutOf l ≡ c → recordFront b c ≡ stops why → (0 < length l) × (recordFront b (cutOf (l ++ f)) ≡ stops why)
+    by true (Record n) is e = (omega (arith, whole-at l n is .there), rw (whole-stays l f n is) e)
+    by false (Record n) is e = absurd (whole-stops e)
+    by b TooLong is e = (omega (arith, long-at l is .two), rw (long-stays l f is) e)
+    by b Short is e = absurd (stops-waits (sym e))
 
+pub not-over : (ending : Ending) → overOf ending ≡ false → endedAs ending ≡ waiting
+not-over Waits e = refl
+not-over LongLength e = absurd (true≢false e)
+not-over Full e = absurd (true≢false e)
+
+-- what stands at the front where no record is taken
+pub data Halts (full : Bool) (l : List ℕ) : Ended Ending → Type 0 where
+  filled : {n : ℕ} → cutOf l ≡ Record n → full ≡ true → Halts full l (stopped Full)
+  long : cutOf l ≡ TooLong → Halts full l (stopped LongLength)
+  early : cutOf l ≡ Short → Halts full l waiting
+
+front-halts : (full : Bool) (l : List ℕ) (why : Ending) → recordFront full (cutOf l) ≡ stops why → Halts full l (stopped why)
+front-halts full l why e = by full (cutOf l) refl e
+  where
+    by : (b : Bool) (c : Cut) → cutOf l ≡ c → recordFront b c ≡ stops why → Halts b l (stopped why)
+    by true (Record n) is e =
+        let same : Full ≡ why = cc in
+        let so : Halts true l (stopped Full) = filled is refl in
+        rw same at so
+    by false (Record n) is e = absurd (whole-stops e)
+    by b TooLong is e =
+        let same : LongLength ≡ why = cc in
+        let so : Halts b l (stopped LongLength) = long is in
+        rw same at so
+    by b Short is e = absurd (stops-waits (sym e))
+
+module _ {S : Type 0} (full : S → Bool) (next : S → ℕ → List ℕ → S) (text : S → ℕ → List ℕ → List ℕ) where
+  -- what is made of a whole record stays, whatever follows it
+  pub record Stays : Type 0 where
+    pub next-same : (s : S) (l f : List ℕ) (n : ℕ) → cutOf l ≡ Record n → next s n (l ++ f) ≡ next s n l
+    pub text-same : (s : S) (l f : List ℕ) (n : ℕ) → cutOf l ≡ Record n → text s n (l ++ f) ≡ text s n l
+
+  pub record-sound : Stays → Sound (recordWalk full next text)
+  record-sound stays = record {
+    some = λ s l n e. omega arith;
+    there = λ s l n e. whole-at l n (front-whole (full s) l n e .0) .there;
+    none = λ s. rw (← no-length [] (lit< tt));
+    whole-stays = λ s l f n e.
+        let so = front-whole (full s) l n e in
+        ap (λ (c : Cut). recordFront (full s) c) (whole-stays l f n (so .0)) ∙ ap (λ (b : Bool). cond b (stops Full) (whole n)) (so .1);
+    stop-stays = λ s l f why e. front-stops (full s) l f why e .1;
+    next-stays = λ s l f n e. stays .next-same s l f n (front-whole (full s) l n e .0);
+    text-stays = λ s l f n e. stays .text-same s l f n (front-whole (full s) l n e .0);
+  }
+
+  -- what is left where a walk waits is less than the longest record
+  pub waits-short : (s : S) (l : List ℕ) → recordWalk full next text .cut s l ≡ waits → length l < recordSize payloadLimit
+  waits-short s l e = short-at l (front-waits (full s) l e)
+
+  -- so where it is not over
+  pub left-of-records : Sound (recordWalk full next text) → (growth : ℕ) (start : S) (l before : List ℕ) (at : ℕ) (after : List ℕ) (state : S) (left to : ℕ) (ending : Ending)
+      → Scanned (recordWalk full next text) growth start l before at after state left to (endedAs ending) → overOf ending ≡ false → left < recordSize payloadLimit
+  left-of-records sound growth start l before at after state left to ending so open' =
+      left-short (recordWalk full next text) sound start (recordSize payloadLimit) waits-short l left (endedAs ending) (so .left-is) (so .ended-is) (not-over ending open')
+
+  -- what closes a walk that stopped is the same, whatever follows: it is cut
+  pub cut-settled : (closing : S → Bool → List ℕ) (s : S) (l f : List ℕ) (why : Ending) → recordWalk full next text .cut s l ≡ stops why
+      → closedBy closing s (stopped why) l ≡ closedBy closing s (stopped why) (l ++ f)
+  cut-settled closing s l f why e =
+      let some : 0 < length l = front-stops (full s) l f why e .0 in
+      rw (lt-ltb 0 (length l) some, lt-ltb 0 (length (l ++ f)) (omega (arith, length-append l f)))
+
+  -- by what stands at the front
   module _ (s : S) (l : List ℕ) where
-    walk-next : walkOf walk s l ≡ walkAt walk s l (cutOf l) (walkOf walk)
-    unfolding walkOf
-    walk-next =
-        enough (length l) (suc (length l)) s l (le-refl (length l)) (omega arith)
-        ∙ at-same s l (walkIn walk (length l)) (λ t m. walkIn walk (length m) t m) (λ t n. enough (length l) (length (drop (recordSize n) l)) t (drop (recordSize n) l) (omega (arith, length-drop (recordSize n) l)) (omega arith)) (cutOf l)
+    pub at-long : cutOf l ≡ TooLong → Stopped (recordWalk full next text) s l (stopped LongLength)
+    at-long e = halted (ap (recordFront (full s)) e)
 
-    pub walk-stops : (over : Bool) → Stopped walk s l over → walkOf walk s l ≡ halt s l over
-    walk-stops over (full e g) = walk-next ∙ rw (e, g)
-    walk-stops over (long e) = walk-next ∙ rw e
-    walk-stops over (short e) = walk-next ∙ rw e
+    pub at-short : cutOf l ≡ Short → Stopped (recordWalk full next text) s l (endedAs Waits)
+    at-short e = short (ap (recordFront (full s)) e)
 
-    pub walk-takes : (n : ℕ) → cutOf l ≡ Record n → walk .full s ≡ false → walkOf walk s l ≡ behind (walk .text s n l) (walkOf walk (walk .next s n l) (drop (recordSize n) l))
-    walk-takes n e g = walk-next ∙ rw (e, g)
+    module _ (n : ℕ) (e : cutOf l ≡ Record n) where
+      pub at-full : full s ≡ true → Stopped (recordWalk full next text) s l (stopped Full)
+      at-full g = halted (ap (recordFront (full s)) e ∙ ap (λ (b : Bool). cond b (stops Full) (whole n)) g)
 
-  -- what holds where no record is taken, and of some bytes where it holds of those after their first record, holds of all
-  module _ (P : S → List ℕ → Type 0)
-      (stops : (s : S) (l : List ℕ) (over : Bool) → Stopped walk s l over → P s l)
-      (takes : (s : S) (l : List ℕ) (n : ℕ) → cutOf l ≡ Record n → walk .full s ≡ false → P (walk .next s n l) (drop (recordSize n) l) → P s l) where
-    within : (most : ℕ) (s : S) (l : List ℕ) → length l ≤ most → P s l
-    within zero s l h = stops s l false (short (sym (no-length l (omega arith))))
-    within (suc most) s l h = by (cutOf l) refl (walk .full s) refl (λ t n. within most t (drop (recordSize n) l) (omega (arith, length-drop (recordSize n) l)))
-      where
-        by : (c : Cut) → cutOf l ≡ c → (b : Bool) → walk .full s ≡ b → ((t : S) (n : ℕ) → P t (drop (recordSize n) l)) → P s l
-        by TooLong e b g more = stops s l true (long e)
-        by Short e b g more = stops s l false (short e)
-        by (Record n) e true g more = stops s l true (full e g)
-        by (Record n) e false g more = takes s l n e g (more (walk .next s n l) n)
+      pub at-whole : full s ≡ false → recordWalk full next text .cut s l ≡ whole n
+      at-whole g = ap (recordFront (full s)) e ∙ ap (λ (b : Bool). cond b (stops Full) (whole n)) g
 
-    pub by-records : (s : S) (l : List ℕ) → P s l
-    by-records s l = within (length l) s l (le-refl (length l))
-
-  -- what is left when nothing more is taken
-  pub walk-stopped : (s : S) (l : List ℕ) → Stopped walk (walkOf walk s l .state) (walkOf walk s l .rest) (walkOf walk s l .over)
-  walk-stopped =
-      by-records (λ s l. Stopped walk (walkOf walk s l .state) (walkOf walk s l .rest) (walkOf walk s l .over))
-      (λ s l over so. rw (walk-stops s l over so) so)
-      (λ s l n e g more. rw (walk-takes s l n e g) more)
-
-  pub walk-rest : (s : S) (l : List ℕ) → Suffix l (walkOf walk s l .rest)
-  walk-rest =
-      by-records (λ s l. Suffix l (walkOf walk s l .rest))
-      (λ s l over so. record { skip = 0; inside = zero-le; is = rw (walk-stops s l over so) })
-      (λ s l n e g more. record {
-        skip = recordSize n + more .skip;
-        inside = omega (arith, more .inside, whole-at l n e .there, length-drop (recordSize n) l);
-        is = sym (drop-drop (more .skip) (recordSize n) l) ∙ rw (walk-takes s l n e g) (more .is);
-      })
+    -- and back
+    pub halts : (ended : Ended Ending) → Stopped (recordWalk full next text) s l ended → Halts (full s) l ended
+    halts ended (halted {why} e) = front-halts (full s) l why e
+    halts ended (short e) = early (front-waits (full s) l e)

@@ -1,11 +1,10 @@
-// Records cut out of bytes: a length of two bytes, 210 header bytes, and that many payload bytes. What is left of a buffer is kept.
+// Records cut out of bytes: a length of two bytes, 210 header bytes, and that many payload bytes.
 use air::AIR_BITS;
 use air::LONGEST_PAYLOAD;
 ghost use mathlib.Core.Path.{_≡_};
-ghost use Prim.Native.Nat.{_+_, _*_, _≤_};
-ghost use lib.ListN.{length};
+ghost use Prim.Native.Nat.{_+_, _*_};
 ghost use Rattle.record.specs.Records.{cutOf};
-ghost use Rattle.record.specs.Moves.{Moved};
+ghost use Rattle.record.specs.Walks.{overOf};
 
 // The bytes of a record's length.
 pub const LENGTH_BYTES: usize = 2;
@@ -21,6 +20,27 @@ pub enum Cut {
     TooLong,
     // Too few bytes for a record.
     Short,
+}
+
+// How a walk over records ended.
+pub enum Ending {
+    // It waits for more bytes: those that are left are too few for a record.
+    Waits,
+    // A length over 1,023 stops it.
+    TooLong,
+    // A further record stops it where none is taken any more.
+    Full,
+}
+
+// Whether a walk is over, whatever follows.
+pub fn is_over(ending: Ending) -> bool
+    ensures { λ r. ⌜ r ≡ overOf ending ⌝ }
+{
+    match ending {
+        Ending::Waits => false,
+        Ending::TooLong => true,
+        Ending::Full => true,
+    }
 }
 
 // Two bytes, the high one first.
@@ -45,16 +65,4 @@ pub fn next_record(rest: &[u8]) -> Cut
         return Cut::Short;
     }
     Cut::Record { len }
-}
-
-// Moves the n bytes from `from` on to the front.
-pub fn keep(buf: &mut [u8], from: usize, n: usize)
-    requires { ⌜ from + n ≤ length (now buf) ⌝ }
-    ensures { λ r. ⌜ Moved (now (buf .entry)) from n (now (buf .exit)) ⌝ }
-{
-    let mut i = 0;
-    while i < n {
-        buf[i] = buf[from + i];
-        i += 1;
-    }
 }

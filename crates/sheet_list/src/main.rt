@@ -3,6 +3,7 @@
 use air::MOST_FLIPS;
 use base::Edition;
 use header::Rules;
+use record::is_over;
 use streams::after_read;
 use streams::is_done;
 use streams::read_on;
@@ -15,7 +16,7 @@ ghost use lib.ListN.{length};
 ghost use Rattle.word.specs.Repairs.{syndromes};
 ghost use Rattle.air.specs.Air.{payloadLimit};
 ghost use Rattle.record.specs.Records.{recordSize};
-ghost use Rattle.listing.specs.Listing.{listedRules};
+ghost use Rattle.frame.specs.Recorded.{listedRules};
 ghost use Rattle.sheet_lines.specs.Rooms.{totalsRoom};
 
 // Counts the input, read by read, and writes the sheet at its end. Where a read fails, no sheet is written.
@@ -44,7 +45,8 @@ fn list(table: &[u16; TABLE_ROWS], rules: Rules, buf: &mut [u8], out: &mut [u8])
         tally = counted.tally;
         kept = counted.left;
         let read = filled.next;
-        let next = after_read(read, counted.over);
+        let ending = counted.ending;
+        let next = after_read(read, is_over(ending));
         ended = is_done(next);
         turns = turns_left(turns, next);
     }

@@ -9,7 +9,7 @@ use Rattle.frame.specs.Frames.{frameRead}
 use Rattle.frame.proofs.Rules.{frame-answer}
 use Rattle.lines.specs.declared.Tally.{Tally}
 use Rattle.lines.specs.Tallies.{tallyAfter}
-use Rattle.listing.specs.Listing.{frameIn}
+use Rattle.frame.specs.Recorded.{frameIn}
 use Rattle.sheet_listing.specs.Promises.{Takes}
 
 pub takes : (rules : Rules) (tally : Tally) (l : List ℕ) (n : ℕ) (r : Read) → r ≡ frameRead (frameIn rules n l) → (after : Tally) → after ≡ tallyAfter tally (r .answer)

@@ -1,31 +1,31 @@
--- The program's turns: what is left of a piece is within it, and less than a record where more is read.
+-- A read, the lines of what was read, and their write: what is left is within what was read, and less than a record where the input is not over.
 -- Assumes nothing.
-use mathlib.Core.Path.{_≡_}
-use mathlib.Core.Bool.{false}
+use mathlib.Core.Path.{_≡_, sym, _∙_}
+use mathlib.Core.Bool.{Bool, false}
 use mathlib.Core.List.{List}
 use Prim.Native.Nat.{ℕ, _≤_}
 use native.Mathlib.Omega.{arith}
 use lib.ListN.{length, take}
 use Rattle.air.specs.Air.{payloadLimit}
+use Rattle.record.specs.declared.Ending.{Ending}
 use Rattle.record.specs.Records.{recordSize}
-use Rattle.unpacking.specs.declared.Unpacked.{Unpacked}
-use Rattle.unpacking.specs.Promises.{Turns}
-use Rattle.unpacking.proofs.Keeping.{left-inside, left-short}
+use Rattle.record.specs.Walks.{endedAs, overOf}
+use Rattle.walk.specs.Scans.{Turned}
 use Rattle.streams.specs.declared.Filled.{Filled}
 use Rattle.streams.specs.declared.Next.{Next}
 use Rattle.streams.specs.declared.Next.the-variants.{More}
 use Rattle.streams.specs.Turns.{ReadOn, TurnsLeft}
 use Rattle.streams.proofs.Rounds.{Ready, goes-on}
+use Rattle.record.proofs.Walking.{left-of-records}
+use Rattle.unpacking.specs.Lines.{textLineIn}
+use Rattle.unpacking.specs.Unpacking.{lineWalk}
+use Rattle.unpacking.proofs.Streaming.{line-sound}
 
--- a read, after which the buffer is `read`, and the lines of what was read
-module _ (f : Filled) (read out buf′ out′ : List ℕ) (r : Unpacked) (so : Turns read (f .end) out buf′ out′ r)
-    (buf : List ℕ) (kept : ℕ) (filled : ReadOn buf kept f) (same : length read ≡ length buf) where
-  pub left-in-read : r .left ≤ f .end
-  left-in-read = left-inside read (f .end) (omega (arith, filled .inside)) out out′ r (so .unpacked)
-
-  -- and their write
-  pub unpacks-on : (buf₀ out₀ : List ℕ) (turns : ℕ) → Ready (recordSize payloadLimit) buf₀ out₀ buf out kept turns → length buf′ ≡ length read → length out′ ≡ length out
-      → (next : Next) → (next ≡ More → r .over ≡ false) → (turns′ : ℕ) → TurnsLeft turns next turns′ → Ready (recordSize payloadLimit) buf₀ out₀ buf′ out′ (r .left) turns′
-  unpacks-on buf₀ out₀ turns ready input output next sent turns′ turned =
-      goes-on (recordSize payloadLimit) buf₀ out₀ buf out kept turns ready read buf′ out′ (r .left) (r .over) next turns′ same input output
-      (omega (arith, left-in-read, filled .inside)) (left-short (take (f .end) read) out 0 out′ r (so .unpacked)) sent turned
+pub lists-on : (buf₀ out₀ buf out : List ℕ) (kept turns : ℕ) → Ready (recordSize payloadLimit) buf₀ out₀ buf out kept turns → (filled : Filled) → ReadOn buf kept filled
+    → (read : List ℕ) → length read ≡ length buf → (buf′ out′ : List ℕ) (left to : ℕ) (ending : Ending)
+    → Turned lineWalk 2 tt read (filled .end) out buf′ out′ tt left to (endedAs ending) → length buf′ ≡ length read → length out′ ≡ length out
+    → (over : Bool) → over ≡ overOf ending → (next : Next) → (next ≡ More → over ≡ false) → (turns′ : ℕ) → TurnsLeft turns next turns′
+    → Ready (recordSize payloadLimit) buf₀ out₀ buf′ out′ left turns′
+lists-on buf₀ out₀ buf out kept turns so filled was read same buf′ out′ left to ending done input output over is next sent turns′ turned =
+    goes-on (recordSize payloadLimit) buf₀ out₀ buf out kept turns so read buf′ out′ left over next turns′ same input output
+    (omega (arith, done .inside, was .inside)) (λ e. left-of-records (λ s. false) (λ s n l. s) (λ s n l. textLineIn n l) line-sound 2 tt (take (filled .end) read) out 0 out′ tt left to ending (done .listed) (sym is ∙ e)) sent turned

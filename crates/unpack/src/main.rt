@@ -1,7 +1,8 @@
 // Writes the records on standard input as lines of text, after each read. It moves bytes and does nothing else: the text is `unpacking`'s.
 // Where bytes are left that are no record, it tells on standard error at which byte and why.
 use libc::STDERR_FILENO;
-use record::Cut;
+use record::Ending;
+use record::is_over;
 use streams::is_done;
 use streams::moved_on;
 use streams::read_on;
@@ -16,17 +17,14 @@ ghost use Rattle.record.specs.Records.{recordSize};
 const BUFFER_BYTES: usize = 32768;
 
 // Tells where and why the rest is no record.
-fn tell_cut(left: &[u8], place: u64) {
+fn tell_cut(ending: Ending, place: u64) {
     io::write_all(STDERR_FILENO, b"cut at byte ");
     io::print_decimal(STDERR_FILENO, place);
-    match record::next_record(left) {
-        Cut::TooLong => {
-            io::write_all(STDERR_FILENO, b": the length there is over 1,023\n");
-        }
-        Cut::Short | Cut::Record { .. } => {
-            io::write_all(STDERR_FILENO, b": too few bytes for a record\n");
-        }
+    if is_over(ending) {
+        io::write_all(STDERR_FILENO, b": the length there is over 1,023\n");
+        return;
     }
+    io::write_all(STDERR_FILENO, b": too few bytes for a record\n");
 }
 
 // Unpacks the input, read by read. Where a read or a write fails, the lines up to there are written, and nothing is told of the rest.
@@ -37,6 +35,7 @@ fn unpack(buf: &mut [u8], out: &mut [u8])
 {
     let mut front = 0;
     let mut kept = 0;
+    let mut ending = Ending::Waits;
     let mut ended = false;
     let mut turns = u64::MAX;
     while turns > 0 {
@@ -45,15 +44,15 @@ fn unpack(buf: &mut [u8], out: &mut [u8])
         let unpacked = unpacking::unpack_piece(buf, end, out);
         front = moved_on(front, end, unpacked.left);
         kept = unpacked.left;
+        let after = unpacked.ending;
+        ending = after;
         let read = filled.next;
-        let next = send(out, unpacked.to, read, unpacked.over);
+        let next = send(out, unpacked.to, read, is_over(after));
         ended = is_done(next);
         turns = turns_left(turns, next);
     }
-    if ended {
-        if unpacking::close(kept) {
-            tell_cut(&buf[..kept], front);
-        }
+    if ended && unpacking::close(kept) {
+        tell_cut(ending, front);
     }
 }
 

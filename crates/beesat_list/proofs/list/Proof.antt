@@ -4,6 +4,7 @@
 use borrow.Author.Needs.{needs}
 use Rattle.streams.proofs.Rounds.{has-room}
 use Rattle.text.proofs.Sizes.{put-size}
+use Rattle.walk.proofs.Keeping.{text-inside}
 use Rattle.beesat_list.proofs.Rounds.{Counting, starts-counting, counts-on}
 use Rattle.beesat_list.proofs.list.Statement.{statement}
 use Rattle.beesat_list.proofs.list.Tie as tie
@@ -29,7 +30,7 @@ list-spec =
     (λ c. search (needs, starts-counting))
     (λ c κs. search (needs, has-room))
     (λ c κs. search needs)
-    (λ c κs. search needs)
+    (λ c κs. search (needs, text-inside))
     (λ c κs. search needs)
     (λ c κs. search needs)
     (λ c. search needs)

@@ -3,12 +3,12 @@
 use Prim.Native.Nat.{_-_}
 use borrow.Author.Needs.{needs}
 use lib.ListN.{length}
-use Rattle.beesat_listing.proofs.Scanning.{Scanning, starts, not-full, has-room, goes-on, ends}
+use Rattle.beesat_listing.proofs.Scanning.{Counting, starts, not-full, has-room, goes-on, ends}
 use Rattle.beesat_listing.proofs.list_frames.Statement.{statement}
 use Rattle.beesat_listing.proofs.list_frames.Tie as tie
 
 abbrev Inv-loop : tie.InvT-loop
-Inv-loop piece out₀ at counts₀ used₀ to₀ out counts used to = Scanning counts₀ piece out₀ at out counts used to
+Inv-loop piece out₀ at counts₀ used₀ to₀ out counts used to = Counting counts₀ piece out₀ at out counts used to
 
 abbrev μ-loop : tie.MeasureT-loop
 μ-loop piece out₀ at counts₀ used₀ to₀ out counts used to = length piece - used

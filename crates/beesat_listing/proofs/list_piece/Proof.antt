@@ -2,43 +2,21 @@
 -- Assumes nothing.
 use borrow.Author.Needs.{needs}
 use Rattle.text.proofs.Sizes.{part-size}
-use Rattle.beesat_listing.proofs.Keeping.{part-fits, part-few, left-inside, left-room}
+use Rattle.walk.proofs.Keeping.{part-fits, left-inside, left-room}
+use Rattle.beesat_listing.proofs.Streaming.{frame-sound}
+use Rattle.beesat_listing.proofs.Keeping.{part-few}
 use Rattle.beesat_listing.proofs.list_piece.Statement.{statement}
 use Rattle.beesat_listing.proofs.list_piece.Tie as tie
-
-slice-reshare-prefix-list-frames : tie.Need-slice-reshare-prefix-list-frames
-slice-reshare-prefix-list-frames c = search needs
-
-slice-aggregate-list-frames : tie.Need-slice-aggregate-list-frames
-slice-aggregate-list-frames c = search (needs, part-size)
-
-list-frames-requires : tie.Need-list-frames-requires
-list-frames-requires c κs = (search (needs, part-few), search (needs, part-fits))
-
-sub-keep : tie.Need-sub-keep
-sub-keep c = search (needs, left-inside)
-
-keep-requires : tie.Need-keep-requires
-keep-requires c κs = search (needs, left-room)
-
-same-length : tie.Need-same-length
-same-length c = search needs
-
-same-length-2 : tie.Need-same-length-2
-same-length-2 c = search needs
-
-returns : tie.Need-returns
-returns c = search needs
 
 pub list-piece-spec : {M : Type 1} → statement M
 list-piece-spec =
     tie.close
     (tie.spec
-    slice-reshare-prefix-list-frames
-    slice-aggregate-list-frames
-    list-frames-requires
-    sub-keep
-    keep-requires
-    same-length
-    same-length-2
-    returns)
+    (λ c. search needs)
+    (λ c. search (needs, part-size))
+    (λ c κs. (search (needs, part-few), search (needs, part-fits)))
+    (λ c. search (needs, left-inside, frame-sound))
+    (λ c κs. search (needs, left-room, frame-sound))
+    (λ c. search needs)
+    (λ c. search needs)
+    (λ c. search (needs, left-inside, frame-sound)))

@@ -3,6 +3,7 @@
 -- Assumes nothing.
 use borrow.Author.Needs.{needs}
 use Rattle.text.proofs.Sizes.{part-size, put-size}
+use Rattle.walk.proofs.Keeping.{text-inside}
 use Rattle.streams.proofs.Rounds.{has-room, kept-inside}
 use Rattle.pack.proofs.Rounds.{Kept, begins, packs-on, last-short, last-fits}
 use Rattle.pack.proofs.pack.Statement.{statement}
@@ -25,6 +26,7 @@ pack-spec =
     (λ c κs. search (needs, has-room))
     (λ c κs. search needs)
     (λ c κs. search needs)
+    (λ c κs. search (needs, text-inside))
     (λ c κs. search needs)
     (λ c κs. search needs)
     (λ c. search needs)

@@ -11,7 +11,7 @@ close-spec =
     (tie.spec
     (λ c κs. search needs)
     (λ c κs. search needs)
+    (λ c. search (needs, ends-wrong))
     (λ c κs. (search (needs, last-short), search needs))
     (λ c. search needs)
-    (λ c. search (needs, ends-fine))
-    (λ c. search (needs, ends-wrong)))
+    (λ c. search (needs, ends-fine)))

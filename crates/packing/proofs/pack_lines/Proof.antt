@@ -4,15 +4,15 @@ use borrow.Author.Needs.{needs}
 use Prim.Native.Nat.{_-_}
 use lib.ListN.{length}
 use Rattle.text.proofs.Sizes.{part-size}
-use Rattle.packing.proofs.Scanning.{Scanning, starts, stops-long, stops-open, stops-wrong, line-inside, line-short, has-room, size-fits, place-fits, lines-fit, less, goes-on}
+use Rattle.packing.proofs.Scanning.{Scanning, starts, stops-long, stops-open, stops-wrong, line-inside, line-short, has-room, size-fits, place-fits, less, goes-on}
 use Rattle.packing.proofs.pack_lines.Statement.{statement}
 use Rattle.packing.proofs.pack_lines.Tie as tie
 
 abbrev Inv-loop : tie.InvT-loop
-Inv-loop piece out₀ at lines₀ used₀ to₀ out lines used to = Scanning piece out₀ at out lines used to
+Inv-loop start piece out₀ at lines₀ used₀ to₀ out lines used to = Scanning lines₀ piece out₀ at out lines used to
 
 abbrev μ-loop : tie.MeasureT-loop
-μ-loop piece out₀ at lines₀ used₀ to₀ out lines used to = length piece - used
+μ-loop start piece out₀ at lines₀ used₀ to₀ out lines used to = length piece - used
 
 loop-holds : tie.Need-loop-holds Inv-loop μ-loop
 loop-holds c = search (needs, starts)
@@ -38,11 +38,11 @@ slice-aggregate-pack-line c = search (needs, part-size, line-inside)
 pack-line-requires : tie.Need-pack-line-requires Inv-loop μ-loop
 pack-line-requires c κs = (search (needs, line-short), search (needs, has-room))
 
-is-fine-requires : tie.Need-is-fine-requires Inv-loop μ-loop
-is-fine-requires c κs = search needs
+is-wrong-requires : tie.Need-is-wrong-requires Inv-loop μ-loop
+is-wrong-requires c κs = search needs
 
-add-lines : tie.Need-add-lines Inv-loop μ-loop
-add-lines c = search (needs, lines-fit)
+wrapping-add-u64-requires : tie.Need-wrapping-add-u64-requires Inv-loop μ-loop
+wrapping-add-u64-requires c κs = search needs
 
 add-used : tie.Need-add-used Inv-loop μ-loop
 add-used c = search (needs, size-fits)
@@ -59,8 +59,8 @@ loop-again c = search (needs, goes-on)
 enum-told : tie.Need-enum-told Inv-loop μ-loop
 enum-told c = search needs
 
-add-t24 : tie.Need-add-t24 Inv-loop μ-loop
-add-t24 c = search needs
+add-t26 : tie.Need-add-t26 Inv-loop μ-loop
+add-t26 c = search needs
 
 enum-told-2 : tie.Need-enum-told-2 Inv-loop μ-loop
 enum-told-2 c = search needs
@@ -97,14 +97,14 @@ pack-lines-spec =
     enum-known-end
     slice-aggregate-pack-line
     pack-line-requires
-    is-fine-requires
-    add-lines
+    is-wrong-requires
+    wrapping-add-u64-requires
     add-used
     add-used-2
     loop-less
     loop-again
     enum-told
-    add-t24
+    add-t26
     enum-told-2
     same-length
     returns

@@ -1,9 +1,9 @@
--- `pack_piece` meets its contract: the lines of the piece are packed, and what is left goes to the front.
+-- `packing::pack_piece` meets its contract: the lines of the piece are packed, and what is left goes to the front.
 -- Assumes nothing.
 use borrow.Author.Needs.{needs}
 use Rattle.text.proofs.Sizes.{part-size}
-use Rattle.unpacking.proofs.Keeping.{part-fits}
-use Rattle.packing.proofs.Keeping.{left-inside, left-room}
+use Rattle.walk.proofs.Keeping.{part-fits, left-inside, left-room}
+use Rattle.packing.proofs.Streaming.{pack-sound}
 use Rattle.packing.proofs.pack_piece.Statement.{statement}
 use Rattle.packing.proofs.pack_piece.Tie as tie
 
@@ -14,10 +14,8 @@ pack-piece-spec =
     (λ c. search needs)
     (λ c. search (needs, part-size))
     (λ c κs. search (needs, part-fits))
-    (λ c. search (needs, left-inside))
-    (λ c κs. search (needs, left-room))
-    (λ c κs. search needs)
-    (λ c κs. search needs)
+    (λ c. search (needs, left-inside, pack-sound))
+    (λ c κs. search (needs, left-room, pack-sound))
     (λ c. search needs)
     (λ c. search needs)
-    (λ c. search needs))
+    (λ c. search (needs, left-inside, pack-sound)))

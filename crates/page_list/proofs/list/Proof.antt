@@ -6,6 +6,7 @@ use Rattle.air.specs.Air.{payloadLimit}
 use Rattle.record.specs.Records.{recordSize}
 use Rattle.streams.proofs.Rounds.{Ready, starts, has-room}
 use Rattle.text.proofs.Sizes.{put-size}
+use Rattle.walk.proofs.Keeping.{text-inside}
 use Rattle.page_list.proofs.Rounds.{lists-on}
 use Rattle.page_list.proofs.list.Statement.{statement}
 use Rattle.page_list.proofs.list.Tie as tie
@@ -32,6 +33,7 @@ list-spec =
     (λ c κs. search (needs, has-room))
     (λ c κs. search needs)
     (λ c κs. search needs)
+    (λ c κs. search (needs, text-inside))
     (λ c κs. search needs)
     (λ c κs. search needs)
     (λ c. search needs)

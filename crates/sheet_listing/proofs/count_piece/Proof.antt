@@ -25,7 +25,7 @@ same-length : tie.Need-same-length
 same-length c = search needs
 
 returns : tie.Need-returns
-returns c = search needs
+returns c = search (needs, left-inside)
 
 pub count-piece-spec : {M : Type 1} → statement M
 count-piece-spec =

@@ -4,17 +4,17 @@
 use borrow.Author.Needs.{needs}
 use Rattle.air.specs.Air.{payloadLimit}
 use Rattle.record.specs.Records.{recordSize}
-use Rattle.text.proofs.Sizes.{part-size}
-use Rattle.streams.proofs.Rounds.{Ready, starts, has-room, kept-inside}
-use Rattle.unpack.proofs.Rounds.{left-in-read, unpacks-on}
+use Rattle.walk.proofs.Keeping.{text-inside}
+use Rattle.streams.proofs.Rounds.{Ready, starts, has-room}
+use Rattle.unpack.proofs.Rounds.{lists-on}
 use Rattle.unpack.proofs.unpack.Statement.{statement}
 use Rattle.unpack.proofs.unpack.Tie as tie
 
 abbrev Inv-loop : tie.InvT-loop
-Inv-loop buf₀ out₀ front₀ kept₀ ended₀ turns₀ buf out front kept ended turns = Ready (recordSize payloadLimit) buf₀ out₀ buf out kept turns
+Inv-loop buf₀ out₀ front₀ kept₀ ending₀ ended₀ turns₀ buf out front kept ending ended turns = Ready (recordSize payloadLimit) buf₀ out₀ buf out kept turns
 
 abbrev μ-loop : tie.MeasureT-loop
-μ-loop buf₀ out₀ front₀ kept₀ ended₀ turns₀ buf out front kept ended turns = turns
+μ-loop buf₀ out₀ front₀ kept₀ ending₀ ended₀ turns₀ buf out front kept ending ended turns = turns
 
 pub unpack-spec : {M : Type 1} → statement M
 unpack-spec =
@@ -25,19 +25,15 @@ unpack-spec =
     (λ c. search (needs, starts))
     (λ c κs. search (needs, has-room))
     (λ c κs. search needs)
-    (λ c κs. search (needs, left-in-read))
     (λ c κs. search needs)
+    (λ c κs. search needs)
+    (λ c κs. search (needs, text-inside))
     (λ c κs. search needs)
     (λ c κs. search needs)
     (λ c. search needs)
-    (λ c. search (needs, unpacks-on))
+    (λ c. search (needs, lists-on))
     (λ c κs. search needs)
-    (λ c. search (needs, kept-inside))
-    (λ c. search (needs, part-size, kept-inside))
     (λ c κs. search needs)
-    (λ c. search needs)
-    (λ c. search needs)
-    (λ c. search needs)
     (λ c. search needs)
     (λ c. search needs)
     (λ c. search needs)

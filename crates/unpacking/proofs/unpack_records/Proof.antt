@@ -3,7 +3,8 @@
 use borrow.Author.Needs.{needs}
 use Prim.Native.Nat.{_-_}
 use lib.ListN.{length}
-use Rattle.unpacking.proofs.Scanning.{Scanning, starts, stops-long, stops-short, all-there, has-room, size-fits, place-fits, less, goes-on}
+use Rattle.record.proofs.Scanning.{stops-long, stops-short, all-there, has-room, size-fits, place-fits, less, goes-on}
+use Rattle.unpacking.proofs.Scanning.{Scanning, starts}
 use Rattle.unpacking.proofs.unpack_records.Statement.{statement}
 use Rattle.unpacking.proofs.unpack_records.Tie as tie
 

@@ -8,7 +8,7 @@ use native.Mathlib.Numerals.{add-one}
 use native.Mathlib.Omega.{arith}
 use lib.ListN.{length, take, drop, getD, set, length-drop, length-set}
 use lib.Seq.{length-take-le, take-suc, drop-cons, set-at, append-snoc, getD-drop, getD-append-add}
-use Rattle.record.specs.Moves.{Moved}
+use Rattle.walk.specs.Moves.{Moved}
 
 -- i of the n bytes from `from` on are moved
 pub record Moving (l : List ℕ) (from n : ℕ) (m : List ℕ) (i : ℕ) : Type 0 where

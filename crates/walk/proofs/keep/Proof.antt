@@ -1,10 +1,10 @@
--- `record::keep` meets its contract. Invariant: i bytes are moved.
+-- `walk::keep` meets its contract. Invariant: i bytes are moved.
 -- Assumes nothing.
 use borrow.Author.Needs.{needs}
 use Prim.Native.Nat.{_-_}
-use Rattle.record.proofs.Moving.{Moving, starts, goes-on, ends}
-use Rattle.record.proofs.keep.Statement.{statement}
-use Rattle.record.proofs.keep.Tie as tie
+use Rattle.walk.proofs.Moving.{Moving, starts, goes-on, ends}
+use Rattle.walk.proofs.keep.Statement.{statement}
+use Rattle.walk.proofs.keep.Tie as tie
 
 abbrev Inv-loop : tie.InvT-loop
 Inv-loop buf₀ from n i₀ buf i = Moving buf₀ from n buf i

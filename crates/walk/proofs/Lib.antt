@@ -1,0 +1,5 @@
+pub mod Walking
+pub mod Feeding
+pub mod Scanning
+pub mod Moving
+pub mod Keeping
