@@ -210,7 +210,10 @@ fn vectors(kind: Kind) -> Vec<Vector> {
         .collect()
 }
 
-/// The vectors of `stored` and `stored-beesat`, for each kind.
+/// The stored streams: each kind is in one of them.
+const STREAMS: [Kind; 3] = [Kind::Stored, Kind::StoredSheets, Kind::StoredBeesat];
+
+/// The vectors of the stored streams, for each kind.
 fn stored() -> &'static [Vec<Vector>; OTHERS] {
     static STORED: OnceLock<[Vec<Vector>; OTHERS]> = OnceLock::new();
     STORED.get_or_init(made_stored)
@@ -218,7 +221,8 @@ fn stored() -> &'static [Vec<Vector>; OTHERS] {
 
 fn made_stored() -> [Vec<Vector>; OTHERS] {
     let mut vectors: [Vec<Vector>; OTHERS] = Default::default();
-    for stream in [Kind::Stored, Kind::StoredBeesat] {
+    for stream in STREAMS {
+        let mut kinds = BTreeSet::new();
         let (inputs, replies) = (inputs(stream, DEFAULT_SEED), replies(stream));
         let (mut records, mut replies) = (inputs.as_slice(), replies.as_slice());
         for line in lines(stream) {
@@ -226,7 +230,8 @@ fn made_stored() -> [Vec<Vector>; OTHERS] {
             let (record, later_records) = records[1..].split_at(SIZES[kind]);
             let (reply, later_replies) = replies.split_at(REPLY_SIZES[kind]);
             (records, replies) = (later_records, later_replies);
-            assert_eq!(stream == Kind::StoredBeesat, kind > Kind::Calls as usize);
+            assert!(kinds.contains(&kind) || vectors[kind].is_empty());
+            kinds.insert(kind);
             vectors[kind].push(Vector::new(record, reply, line));
         }
         assert!(records.is_empty() && replies.is_empty());
@@ -1165,9 +1170,15 @@ fn stored_records_replies_and_lines_are_the_same_everywhere() {
     for (stream, records, text, answers) in [
         (
             Kind::Stored,
-            0x824E_4912_FDC4_477F,
-            0x4039_4308_0DE8_5FC7,
-            0xFDE4_654F_1F9D_8A95,
+            0xD7BE_0F3E_3BFA_6FB3,
+            0x7EDA_213F_2EE8_EAAB,
+            0xB4A8_DC65_DFD0_4FBF,
+        ),
+        (
+            Kind::StoredSheets,
+            0xB291_255C_0B95_6E75,
+            0x8407_3232_54F5_A9B9,
+            0x00AE_4422_FBC5_2981,
         ),
         (
             Kind::StoredBeesat,
@@ -1179,7 +1190,7 @@ fn stored_records_replies_and_lines_are_the_same_everywhere() {
         let bytes = inputs(stream, DEFAULT_SEED);
         let told = lines(stream).join("\n") + "\n";
         let replies = replies(stream);
-        assert!(bytes.len() <= 1_600_000 && replies.len() <= 1_400_000);
+        assert!(bytes.len() <= 1_000_000 && replies.len() <= 1_000_000);
         assert_eq!(hash(&bytes), records);
         assert_eq!(hash(told.as_bytes()), text);
         assert_eq!(hash(&replies), answers);

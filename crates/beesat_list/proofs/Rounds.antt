@@ -7,8 +7,8 @@ use Prim.Native.Nat.{ℕ, _+_, _*_, _^_, _<_, _≤_}
 use native.Mathlib.Omega.{arith}
 use lib.ListN.{length, take}
 use Rattle.beesat.specs.Tables.{frameBytes}
-use Rattle.beesat_lines.specs.declared.Counts.{Counts}
-use Rattle.beesat_lines.specs.Counting.{heardOf, noCounts}
+use Rattle.beesat_listing.specs.declared.Counts.{Counts}
+use Rattle.beesat_listing.specs.Counting.{heardOf, noCounts}
 use Rattle.walk.specs.Walks.{waiting}
 use Rattle.walk.specs.Scans.{Turned}
 use Rattle.beesat_listing.specs.Listing.{frameWalk}

@@ -10,8 +10,8 @@ use Rattle.walk.specs.Walks.{waiting}
 use Rattle.walk.specs.Scans.{Scanned}
 use Rattle.walk.proofs.Keeping as keeping
 use Rattle.beesat.specs.Tables.{frameBytes}
-use Rattle.beesat_lines.specs.declared.Counts.{Counts}
-use Rattle.beesat_lines.specs.Counting.{heardOf}
+use Rattle.beesat_listing.specs.declared.Counts.{Counts}
+use Rattle.beesat_listing.specs.Counting.{heardOf}
 use Rattle.beesat_listing.specs.Listing.{frameWalk}
 use Rattle.beesat_listing.proofs.Frames.{front-waits}
 use Rattle.beesat_listing.proofs.Streaming.{frame-sound}

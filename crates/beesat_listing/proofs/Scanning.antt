@@ -15,10 +15,9 @@ use Rattle.beesat.specs.Reading.{readOf}
 use Rattle.beesat.specs.declared.Answer.{Answer}
 use Rattle.beesat.specs.declared.Answer.the-variants.{Telemetry, Idle, Refused}
 use Rattle.beesat.specs.declared.Read.{Read}
-use Rattle.beesat_lines.specs.declared.Counts.{Counts}
-use Rattle.beesat_lines.specs.Counting.{heardOf, countedOf}
-use Rattle.beesat_lines.specs.Lines.{frameLine}
-use Rattle.beesat_lines.specs.Rooms.{lineRoom}
+use Rattle.beesat_listing.specs.declared.Counts.{Counts}
+use Rattle.beesat_listing.specs.Counting.{heardOf, countedOf}
+use Rattle.beesat_listing.specs.Lines.{frameLine, lineRoom}
 use Rattle.beesat_listing.specs.declared.Taken.{Taken}
 use Rattle.beesat_listing.specs.Listing.{frameIn, frameWalk}
 use Rattle.beesat_listing.specs.Promises.{Takes}

@@ -10,8 +10,8 @@ use Rattle.walk.specs.Walks.{whole, Closed, closedBy}
 use Rattle.walk.proofs.Walking.{Sound}
 use Rattle.walk.proofs.Feeding.{fed-whole}
 use Rattle.beesat.specs.Tables.{frameBytes}
-use Rattle.beesat_lines.specs.Counting.{noCounts}
-use Rattle.beesat_lines.specs.Lines.{title, closingOf}
+use Rattle.beesat_listing.specs.Counting.{noCounts}
+use Rattle.beesat_listing.specs.Lines.{title, closingOf}
 use Rattle.beesat_listing.specs.Listing.{frameIn, frameWalk, framesListing, streamedOf}
 use Rattle.beesat_listing.proofs.Frames.{front-some, front-none, front-whole}
 

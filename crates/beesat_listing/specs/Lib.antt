@@ -1,2 +1,4 @@
+pub mod Counting
+pub mod Lines
 pub mod Listing
 pub mod Promises

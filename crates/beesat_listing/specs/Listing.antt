@@ -8,9 +8,9 @@ use lib.ListN.{length, take}
 use Rattle.walk.specs.Walks.{Front, whole, waits, Walk, closedBy, toldOf, walkOf, fedOf}
 use Rattle.beesat.specs.Tables.{frameBytes}
 use Rattle.beesat.specs.Reading.{readOf}
-use Rattle.beesat_lines.specs.declared.Counts.{Counts}
-use Rattle.beesat_lines.specs.Counting.{noCounts, heardOf, countedOf}
-use Rattle.beesat_lines.specs.Lines.{title, frameLine, closingOf}
+use Rattle.beesat_listing.specs.declared.Counts.{Counts}
+use Rattle.beesat_listing.specs.Counting.{noCounts, heardOf, countedOf}
+use Rattle.beesat_listing.specs.Lines.{title, frameLine, closingOf}
 
 -- "Frame k is bytes 144k to 144k + 143, whatever stands there": nothing stops the listing, and "a rest under 144 bytes" is no frame
 abbrev pub frameFront : List ℕ → Front (Unit {0}) ⊥

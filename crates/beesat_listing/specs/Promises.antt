@@ -5,10 +5,9 @@ use mathlib.Core.List.{List}
 use Prim.Native.Nat.{ℕ, _+_, _≤_}
 use Rattle.text.specs.Text.{Put}
 use Rattle.beesat.specs.Reading.{readOf}
-use Rattle.beesat_lines.specs.declared.Counts.{Counts}
-use Rattle.beesat_lines.specs.Counting.{noCounts, heardOf}
-use Rattle.beesat_lines.specs.Lines.{title, frameLine}
-use Rattle.beesat_lines.specs.Rooms.{lineRoom}
+use Rattle.beesat_listing.specs.declared.Counts.{Counts}
+use Rattle.beesat_listing.specs.Counting.{noCounts, heardOf}
+use Rattle.beesat_listing.specs.Lines.{title, frameLine, lineRoom}
 use Rattle.beesat_listing.specs.declared.Opened.{Opened}
 use Rattle.beesat_listing.specs.declared.Taken.{Taken}
 use Rattle.beesat_listing.specs.Listing.{nextCounts}

@@ -1,21 +1,29 @@
 // The listing of frames of BEESAT-1: its first line, a line for each of the whole frames of a piece, and its last lines.
+mod frame_lines;
+
 use beesat::FRAME_BYTES;
-use beesat_lines::Counts;
-use beesat_lines::counted;
-use beesat_lines::heard;
-use beesat_lines::put_closing;
-use beesat_lines::put_line;
-use beesat_lines::put_title;
+use frame_lines::counted;
+use frame_lines::heard;
+use frame_lines::put_closing;
+use frame_lines::put_line;
+pub use frame_lines::put_refusal;
+use frame_lines::put_title;
 ghost use Prim.Native.Nat.{_+_, _*_, _<_, _≤_, _^_};
 ghost use lib.ListN.{length};
 ghost use Rattle.text.specs.Text.{Put};
 ghost use Rattle.walk.specs.Walks.{waiting, cutWith};
 ghost use Rattle.walk.specs.Scans.{Scanned, Turned};
-ghost use Rattle.beesat_lines.specs.Counting.{heardOf};
-ghost use Rattle.beesat_lines.specs.Lines.{closingOf};
-ghost use Rattle.beesat_lines.specs.Rooms.{lineRoom};
+ghost use Rattle.beesat_listing.specs.Counting.{heardOf};
+ghost use Rattle.beesat_listing.specs.Lines.{closingOf, lineRoom};
 ghost use Rattle.beesat_listing.specs.Listing.{frameWalk};
 ghost use Rattle.beesat_listing.specs.Promises.{Opens, Takes};
+
+// How many frames of each kind there were.
+pub struct Counts {
+    pub telemetry: u64,
+    pub idle: u64,
+    pub refused: u64,
+}
 
 // A listing was opened: the counts of no frame, and the place after the first line.
 pub struct Opened {

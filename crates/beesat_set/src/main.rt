@@ -1,5 +1,5 @@
 // Writes one field of the frame of BEESAT-1 on standard input: started with the words FIELD and VALUE, it writes the changed frame to standard output, or tells
-// the refusal on standard error. It moves bytes and does nothing else: the frame is that of `beesat`, the text that of `beesat_lines`.
+// the refusal on standard error. It moves bytes and does nothing else: the frame is that of `beesat`, the text that of `beesat_listing`.
 use base::NOT_144_BYTES;
 use base::Refusal;
 use base::Written;
@@ -16,7 +16,7 @@ ghost use lib.ListN.{length};
 // Tells a refusal.
 fn tell(why: Refusal) {
     let mut out = [0u8; 64];
-    let n = beesat_lines::put_refusal(&mut out, 0, why);
+    let n = beesat_listing::put_refusal(&mut out, 0, why);
     io::write_all(STDERR_FILENO, &out[..n]);
 }
 

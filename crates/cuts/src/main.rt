@@ -31,14 +31,14 @@ fn say(text: &[u8]) {
 fn found(state: State, piece: &[u8], at: usize) -> Step
     ensures { λ r. ⌜ r ≡ stepOf state (now (piece .entry)) at ⌝ }
 {
-    marks::next(marks::moved(marks::new(piece), at), state)
+    mark_reader::next(mark_reader::moved(mark_reader::new(piece), at), state)
 }
 
 // What `marks::take` answers, by a reader of the piece that is closed.
 fn closed(state: State, piece: &[u8]) -> Taken
     ensures { λ r. ⌜ r ≡ takenOf state (now (piece .entry)) ⌝ }
 {
-    marks::close(marks::new(piece), state)
+    mark_reader::close(mark_reader::new(piece), state)
 }
 
 // The places of the marks of a piece after a state; how many there are.
@@ -119,7 +119,7 @@ fn bit_by_bit(bits: &[u8], places: &[u32; MOST]) -> usize {
 fn read_signed(window: [u8; WINDOW_BITS], satellite: u8) -> Read {
     let call = sign::call_sign(satellite);
     let rules = header::usual(Edition::Flown);
-    header::read_header_signed(rules, &call, &window[MARKER_BITS..])
+    header_reader::read_header_signed(rules, &call, &window[MARKER_BITS..])
 }
 
 // What is read of a mark's header: alone, or with the call sign of a satellite.

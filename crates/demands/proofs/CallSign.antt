@@ -7,8 +7,7 @@ use Rattle.base.specs.declared.Edition.{Edition}
 use Rattle.base.specs.declared.Edition.the-variants.{Corrected}
 use Rattle.base.specs.Checks.{first}
 use Rattle.header.specs.declared.Rules.{Rules}
-use Rattle.header.specs.Reading.{signal, signed, repairedAnswer, readHeaderOf}
-use Rattle.header.specs.Patterns.{headerRead}
+use Rattle.header_reader.specs.Reading.{signal, signed, repairedAnswer, readHeaderOf, headerRead}
 use Rattle.frame.specs.Frames.{frame, signedFrame, frameOf, frameRead}
 use Rattle.sheet.specs.declared.Sheet.{Sheet}
 use Rattle.sheet.specs.Sheets.{offerAnswer, offerOf}

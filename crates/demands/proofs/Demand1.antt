@@ -16,16 +16,18 @@ use Rattle.header.specs.declared.Fields.{Fields}
 use Rattle.header.specs.declared.Answer.the-variants.{Refused}
 use Rattle.base.specs.declared.Written.{Written}
 use Rattle.base.specs.declared.Written.the-variants.{Refused as NotWritten}
-use Rattle.header.specs.Reading.{Signal, signalChecks, readHeaderOf}
+use Rattle.header_reader.specs.Reading.{Signal, signalChecks, readHeaderOf}
 use Rattle.header.specs.Writing.{writeChecks, writeHeaderOf, afterWrite, HeaderWritten}
-use Rattle.header.proofs.Given.{read-exactly, write-exactly}
-use Rattle.page.specs.declared.scaling.Scaling.{Scaling}
-use Rattle.page.specs.declared.scaling.ShownAnswer.the-variants.{Refused as NoValue}
+use Rattle.header_reader.proofs.Given.{read-exactly}
+use Rattle.header.proofs.Refusing.{write-exactly}
+use Rattle.scaling.specs.declared.Scaling.{Scaling}
+use Rattle.scaling.specs.declared.ShownAnswer.the-variants.{Refused as NoValue}
 use Rattle.page.specs.Fields.{headOf, fieldsOf}
 use Rattle.page.specs.Payload.{noPage, pageChecks, pageOf}
 use Rattle.page.specs.Rows.{rowsChecks, writeOf, PageWritten}
-use Rattle.page.specs.Shown.{shownChecks, shownOf}
-use Rattle.page.proofs.Given.{page-exactly, shown-exactly, rows-exactly, rows-unchanged}
+use Rattle.scaling.specs.Shown.{shownChecks, shownOf}
+use Rattle.page.proofs.Given.{page-exactly, rows-exactly, rows-unchanged}
+use Rattle.scaling.proofs.Given.{shown-exactly}
 use Rattle.frame.specs.Frames.{Frame, frameChecks, frameOf}
 use Rattle.frame.proofs.Rules.{refused-exactly}
 use Rattle.sheet.specs.declared.Sheet.{Sheet}

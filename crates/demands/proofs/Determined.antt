@@ -23,31 +23,34 @@ use Rattle.base.specs.declared.Edition.the-variants.{Flown, Corrected}
 use Rattle.base.specs.declared.Refusal.{Refusal}
 use Rattle.base.specs.declared.Written.{Written}
 use Rattle.header.specs.Fields.{lastSourceOf, satelliteOf, radioOf}
+use Rattle.header.specs.HalfWidths.{halvesHeader}
 use Rattle.header.specs.Rules.{usualRules}
-use Rattle.header.specs.Reading.{signal, signed}
-use Rattle.header.specs.Patterns.{beside, headerRead}
+use Rattle.header_reader.specs.Reading.{signal, signed, headerRead}
+use Rattle.header.specs.Patterns.{beside}
 use Rattle.header.specs.Writing.{afterWrite, HeaderWritten}
 use Rattle.beesat.specs.declared.Read.{Read as FrameRead}
 use Rattle.beesat.specs.Reading.{readOf}
 use Rattle.beesat.specs.Writing.{afterField, FieldWritten}
 use Rattle.frame.specs.Frames.{frame, signedFrame, frameRead}
 use Rattle.header.specs.declared.Header.{Header}
-use Rattle.sheet.specs.declared.Lane.{Lane}
-use Rattle.sheet.specs.declared.Source.{Source}
-use Rattle.sheet.specs.declared.Display.{Display}
+use Rattle.source.specs.declared.Lane.{Lane}
+use Rattle.source.specs.declared.Source.{Source}
+use Rattle.source.specs.declared.Display.{Display}
+use Rattle.source.specs.Records.{nextOf}
+use Rattle.source.specs.Lanes.{silent, hearOf, framesOf, summedOf}
+use Rattle.source.specs.Counts.{countedAt, countsAfter, totalIn}
 use Rattle.sheet.specs.declared.Sheet.{Sheet}
 use Rattle.sheet.specs.declared.Offered.{Offered}
-use Rattle.sheet.specs.declared.wide.WideSheet.{WideSheet}
-use Rattle.sheet.specs.declared.wide.WideOffered.{WideOffered}
-use Rattle.sheet.specs.Wide.{held, widened, wideOffered}
-use Rattle.sheet.specs.Records.{nextOf}
-use Rattle.sheet.specs.Lanes.{hearOf, summedOf}
-use Rattle.sheet.specs.Sheets.{countedAt, newSheet, countsAfter, acceptedOf, refusedOf, heardOf, fullOf, offerOf, displayOf}
+use Rattle.sheet.specs.Sheets.{newSheet, acceptedOf, refusedOf, heardOf, fullOf, offerOf, displayOf}
+use Rattle.wide_sheet.specs.declared.WideSheet.{WideSheet}
+use Rattle.wide_sheet.specs.declared.WideOffered.{WideOffered}
+use Rattle.wide_sheet.specs.Wide.{held, widened, wideOffered}
 use Rattle.walk.specs.Walks.{cutWith}
 use Rattle.packing.specs.declared.Judged.{Judged}
 use Rattle.packing.specs.Packing.{wrongOf}
 use Rattle.packing.specs.Pieces.{opened}
 use Rattle.lines.specs.declared.Tally.{Tally}
+use Rattle.lines.specs.Lines.{letterOf}
 use Rattle.lines.specs.Tallies.{totalOf}
 use Rattle.page_lines.specs.declared.Counts.{Counts}
 use Rattle.page_lines.specs.Counting.{recordsHeard}
@@ -58,18 +61,19 @@ use Rattle.record.specs.Walks.{overOf}
 use Rattle.record_writer.specs.Writing.{afterRecord, RecordWritten}
 use Rattle.record_writer.specs.LongPayload.{wholeOf}
 use Rattle.page.specs.declared.PageAnswer.{PageAnswer}
-use Rattle.page.specs.declared.scaling.Scaling.{Scaling}
-use Rattle.page.specs.declared.scaling.ShownAnswer.{ShownAnswer}
+use Rattle.scaling.specs.declared.Scaling.{Scaling}
+use Rattle.scaling.specs.declared.ShownAnswer.{ShownAnswer}
 use Rattle.page.specs.Rows.{PageWritten}
 use Rattle.page.specs.Payload.{pageOf}
-use Rattle.page.specs.Shown.{scalingOf, shownOf}
+use Rattle.scaling.specs.Shown.{scalingOf, shownOf}
 use denote.Ref.{RefT, now}
 use Rattle.marks.specs.declared.State.{State}
 use Rattle.marks.specs.declared.Mark.{Mark}
 use Rattle.marks.specs.declared.Step.{Step}
 use Rattle.marks.specs.declared.Taken.{Taken}
-use Rattle.marks.specs.declared.Reader.{Reader}
-use Rattle.marks.specs.Pieces.{freshState, takenOf, stepOf, readerAt}
+use Rattle.mark_reader.specs.declared.Reader.{Reader}
+use Rattle.marks.specs.Pieces.{freshState, takenOf, stepOf}
+use Rattle.mark_reader.specs.Readers.{readerAt}
 use Rattle.search.specs.Reports.{markRead}
 
 -- a contract of the form `r ≡ d` allows one answer
@@ -125,6 +129,9 @@ last-source-one edition r s = one
 
 pub usual-one : (edition : Edition) (r s : Rules) → r ≡ usualRules edition → s ≡ usualRules edition → r ≡ s
 usual-one edition r s = one
+
+pub unpack-one : (hi lo : ℕ) (r s : Header) → r ≡ halvesHeader hi lo → s ≡ halvesHeader hi lo → r ≡ s
+unpack-one hi lo r s = one
 
 pub read-header-one : (rules : Rules) (air : List ℕ) (r s : Read) → r ≡ headerRead (signal rules air) → s ≡ headerRead (signal rules air) → r ≡ s
 read-header-one rules air r s = one
@@ -182,6 +189,9 @@ heard-one sheet r s = one
 pub full-one : (sheet : Sheet) (r s : Bool) → r ≡ fullOf Flown sheet → s ≡ fullOf Flown sheet → r ≡ s
 full-one sheet r s = one
 
+pub never-heard-one : (r s : Source) → r ≡ silent → s ≡ silent → r ≡ s
+never-heard-one r s = one
+
 pub next-one : (lane : Lane) («fr_cnt_tx» flips : ℕ) (r s : Lane) → r ≡ nextOf lane «fr_cnt_tx» flips → s ≡ nextOf lane «fr_cnt_tx» flips → r ≡ s
 next-one lane «fr_cnt_tx» flips r s = one
 
@@ -193,6 +203,12 @@ refuse-one counts number r s = one
 
 pub counted-number-one : (k r s : ℕ) → r ≡ countedAt k → s ≡ countedAt k → r ≡ s
 counted-number-one k r s = one
+
+pub source-total-one : (counts : List ℕ) (r s : ℕ) → r ≡ totalIn counts → s ≡ totalIn counts → r ≡ s
+source-total-one counts r s = one
+
+pub source-frames-one : (source : Source) (r s : ℕ) → r ≡ framesOf source → s ≡ framesOf source → r ≡ s
+source-frames-one source r s = one
 
 pub summed-one : (source : Source) (r s : Display) → r ≡ summedOf source → s ≡ summedOf source → r ≡ s
 summed-one source r s = one
@@ -248,6 +264,9 @@ write-record-one edition fields payload out r s out-r out-s a b =
 pub of-whole-one : (why : Refusal) (size : ℕ) (r s : Refusal) → r ≡ wholeOf why size → s ≡ wholeOf why size → r ≡ s
 of-whole-one why size r s = one
 
+pub letter-one : («src_id» r s : ℕ) → r ≡ letterOf «src_id» → s ≡ letterOf «src_id» → r ≡ s
+letter-one «src_id» r s = one
+
 pub total-one : (tally : Tally) (r s : ℕ) → r ≡ totalOf tally → s ≡ totalOf tally → r ≡ s
 total-one tally r s = one
 
@@ -280,8 +299,8 @@ new-one piece r s = one
 pub moved-one : (reader : Reader) (at : ℕ) (r s : Reader) → r ≡ readerAt (reader .piece) at → s ≡ readerAt (reader .piece) at → r ≡ s
 moved-one reader at r s = one
 
-pub marks-next-one : (reader : Reader) (state : State) (r s : Step) → r ≡ stepOf state (now (reader .piece)) (reader .at) → s ≡ stepOf state (now (reader .piece)) (reader .at) → r ≡ s
-marks-next-one reader state r s = one
+pub mark-reader-next-one : (reader : Reader) (state : State) (r s : Step) → r ≡ stepOf state (now (reader .piece)) (reader .at) → s ≡ stepOf state (now (reader .piece)) (reader .at) → r ≡ s
+mark-reader-next-one reader state r s = one
 
 pub close-one : (reader : Reader) (state : State) (r s : Taken) → r ≡ takenOf state (now (reader .piece)) → s ≡ takenOf state (now (reader .piece)) → r ≡ s
 close-one reader state r s = one

@@ -17,10 +17,10 @@ use Rattle.air.specs.Flips.{mostFlips}
 use Rattle.header.specs.declared.Fields.{Fields}
 use Rattle.header.specs.declared.Rules.{Rules}
 use Rattle.header.specs.declared.Answer.the-variants.{Accepted, Refused}
-use Rattle.header.specs.Reading.{signal, unknownSource, readHeaderOf}
+use Rattle.header_reader.specs.Reading.{signal, unknownSource, readHeaderOf}
 use Rattle.header.specs.Writing.{bitsFor, headerFor, HeaderWritten}
 use Rattle.header.proofs.WrittenAir.{Sent, sent}
-use Rattle.header.proofs.OtherEdition.{corrected-no-5, reads-same, refused-4}
+use Rattle.header_reader.proofs.OtherEdition.{corrected-no-5, reads-same, refused-4}
 
 -- 5 is given under the flown edition only
 pub never-5 : (n : ℕ) → unknownSource Corrected n .applies ≡ false

@@ -18,13 +18,12 @@ use Rattle.header.specs.declared.Header.{Header}
 use Rattle.header.specs.declared.Rules.{Rules}
 use Rattle.header.specs.declared.Answer.the-variants.{Accepted}
 use Rattle.header.specs.Fields.{satelliteOf}
-use Rattle.header.specs.Reading.{Signal, signalWith}
-use Rattle.header.specs.Patterns.{headerRead}
-use Rattle.header.specs.Accepting.{AcceptsHeader}
+use Rattle.header_reader.specs.Reading.{Signal, signalWith, headerRead}
+use Rattle.header_reader.specs.Accepting.{AcceptsHeader}
 use Rattle.header.specs.Writing.{headerFor, HeaderWritten}
-use Rattle.header.proofs.Accepted.{rules-then-header, header-then-rules, one-header}
-use Rattle.header.proofs.Damage as damage
-use Rattle.header.proofs.Writing as writing
+use Rattle.header_reader.proofs.Accepted.{rules-then-header, header-then-rules, one-header}
+use Rattle.header_reader.proofs.Damage as damage
+use Rattle.header_reader.proofs.Writing as writing
 use Rattle.header.proofs.WrittenAir.{Sent, sent}
 use Rattle.frame.specs.Recorded.{listedRules}
 

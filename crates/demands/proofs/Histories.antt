@@ -11,11 +11,13 @@ use Rattle.base.specs.declared.Edition.{Edition}
 use Rattle.base.specs.Checks.{refusal}
 use Rattle.air.specs.Air.{wordCount}
 use Rattle.header.specs.declared.Answer.the-variants.{Refused}
-use Rattle.header.specs.Patterns.{patternsOf}
+use Rattle.header_reader.specs.Reading.{patternsOf}
 use Rattle.frame.specs.Frames.{Frame, frameOf}
-use Rattle.sheet.specs.Lanes.{Role, as-caller, as-responder}
-use Rattle.sheet.specs.Sheets.{refusalCounts, slotOf, newSheet, sourceAt, laneAt, refusalsAt, acceptedOf, refusedOf, fullSheet, sameEdition, editionOf, takenOf, offerOf}
-use Rattle.sheet.specs.Histories.{sheetOf, ofEdition, takenFrom, ownOf, replayOf, refusedWith, Unfilled}
+use Rattle.source.specs.Lanes.{Role, as-caller, as-responder}
+use Rattle.source.specs.Counts.{refusalCounts, slotOf}
+use Rattle.source.specs.Records.{replayOf}
+use Rattle.sheet.specs.Sheets.{newSheet, sourceAt, laneAt, refusalsAt, acceptedOf, refusedOf, fullSheet, sameEdition, editionOf, takenOf, offerOf}
+use Rattle.sheet.specs.Histories.{sheetOf, ofEdition, takenFrom, ownOf, refusedWith, Unfilled}
 use Rattle.sheet.proofs.Tallies.{run-one-more}
 use Rattle.sheet.proofs.History.{offered-counted, own-lane, own-record, own-refusals, never-filled, taken-before, other-before, refused-after, same-after}
 

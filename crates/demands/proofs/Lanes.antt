@@ -8,7 +8,7 @@ use mathlib.Core.List.{List}
 use Prim.Native.Nat.{ℕ}
 use Rattle.base.specs.declared.Edition.{Edition}
 use Rattle.frame.specs.Frames.{Frame}
-use Rattle.sheet.specs.Lanes.{Role}
+use Rattle.source.specs.Lanes.{Role}
 use Rattle.sheet.specs.Sheets.{laneAt}
 use Rattle.sheet.specs.Histories.{sheetOf, takenFrom, laneFrames, ownOf}
 use Rattle.sheet.proofs.LaneFrames.{frames-only, heard-only}

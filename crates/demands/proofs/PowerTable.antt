@@ -18,7 +18,8 @@ use Rattle.layout.proofs.Bits.{bit-in-byte}
 use Rattle.layout.proofs.Soundness.{and-left, and-right, every-at}
 use Rattle.layout.proofs.Values.{number-is}
 use Rattle.page.specs.Bytes.{lowFirst, signed16}
-use Rattle.page.specs.Rows.{rowCount, pageBytes, rowAt}
+use Rattle.page.specs.Rows.{pageBytes, rowAt}
+use Rattle.scaling.specs.Shown.{rowCount}
 use Rattle.demands.specs.PowerRows.{powerRows}
 
 -- a sound table for the 34 bytes of a page

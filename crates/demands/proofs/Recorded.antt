@@ -15,7 +15,7 @@ use Rattle.header.specs.declared.Rules.{Rules}
 use Rattle.header.specs.declared.Answer.the-variants.{Accepted}
 use Rattle.header.specs.Fields.{satelliteOf}
 use Rattle.header.specs.Writing.{headerFor}
-use Rattle.header.proofs.Writing.{written-accepted}
+use Rattle.header_reader.proofs.Writing.{written-accepted}
 use Rattle.frame.specs.Frames.{frameWith, frameRead}
 use Rattle.frame.proofs.Rules.{rules-then-reader}
 use Rattle.frame.proofs.Writing.{with-payload}

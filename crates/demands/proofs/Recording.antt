@@ -14,7 +14,7 @@ use Rattle.base.specs.Checks.{Exactly}
 use Rattle.base.specs.Lists.{AreBits}
 use Rattle.base.proofs.First.{NoneApplies}
 use Rattle.header.specs.declared.Answer.the-variants.{Refused as NotAccepted}
-use Rattle.header.specs.Reading.{limitAbove42, not210Long, noBit}
+use Rattle.header_reader.specs.Reading.{limitAbove42, not210Long, noBit}
 use Rattle.marks.specs.declared.Mark.{Mark}
 use Rattle.marks.specs.declared.State.{State}
 use Rattle.marks.specs.declared.Verdict.the-variants.{Refused}

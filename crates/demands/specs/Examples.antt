@@ -13,7 +13,7 @@ use Rattle.crc.specs.Crc.{crc13Of}
 use Rattle.crc.specs.Crc5.{headerBit, crc5Of}
 use Rattle.air.specs.Air.{airOf}
 use Rattle.header.specs.Fields.{codedOf}
-use Rattle.sheet.specs.Records.{missedOf}
+use Rattle.source.specs.Records.{missedOf}
 
 -- a row of the table: what is worked out, and what it has to be
 pub data Example : Type 0 where

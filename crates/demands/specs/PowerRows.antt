@@ -4,7 +4,7 @@ use mathlib.Core.List.{List, [], _∷_, flatMap}
 use Prim.Native.Nat.{ℕ, _*_}
 use Rattle.base.specs.Lists.{count}
 use Rattle.layout.specs.Rows.{lowFirst}
-use Rattle.page.specs.Rows.{rowCount}
+use Rattle.scaling.specs.Shown.{rowCount}
 
 -- "Row r is a 16-bit .. number, low byte first .., at user byte 2r."
 unfoldable pub powerRows : List ℕ

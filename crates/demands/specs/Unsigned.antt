@@ -4,7 +4,7 @@ use mathlib.Core.List.{List, [], _∷_, _++_}
 use Rattle.base.specs.Checks.{Check}
 use Rattle.air.specs.WordRepairs.{flipsIn}
 use Rattle.header.specs.declared.Answer.{Answer}
-use Rattle.header.specs.Reading.{Signal, arrived, repairedBits, limitAbove42, not210Long, noBit, beyondRepair, flipsAboveLimit, crc5Differs, unknownSource, unknownCoding}
+use Rattle.header_reader.specs.Reading.{Signal, arrived, repairedBits, limitAbove42, not210Long, noBit, beyondRepair, flipsAboveLimit, crc5Differs, unknownSource, unknownCoding}
 use Rattle.frame.specs.Frames.{Frame, repairedHeader, payloadChecks}
 
 abbrev pub headerChecksBefore : Signal → List (Check Answer)

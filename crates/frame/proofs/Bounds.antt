@@ -15,9 +15,8 @@ use Rattle.header.specs.declared.Header.{Header}
 use Rattle.header.specs.declared.Answer.{Answer}
 use Rattle.header.specs.declared.Answer.the-variants.{Accepted, Refused}
 use Rattle.header.specs.Fields.{lastSourceOf}
-use Rattle.header.specs.Reading.{arrived, repairedAnswer}
-use Rattle.header.specs.Patterns.{patternsOf}
-use Rattle.header.proofs.GoesOn.{not-refused}
+use Rattle.header_reader.specs.Reading.{arrived, repairedAnswer, patternsOf}
+use Rattle.header_reader.proofs.GoesOn.{not-refused}
 use Rattle.frame.specs.Frames.{Frame, frameChecks, frameNumbers, frameOf}
 use Rattle.frame.proofs.Rules.{answer-then-rules}
 

@@ -18,10 +18,11 @@ use Rattle.header.specs.declared.Rules.{Rules}
 use Rattle.header.specs.declared.Answer.{Answer}
 use Rattle.header.specs.declared.Answer.the-variants.{Accepted, Refused}
 use Rattle.air.specs.Air.{wordCount}
-use Rattle.header.specs.Reading.{signalWith, signalChecks, repairedAnswer, readHeaderOf}
-use Rattle.header.specs.Patterns.{beside, patternsOf, headerRead}
-use Rattle.header.proofs.Beside.{beside-refused, read-answer, read-patterns}
-use Rattle.header.proofs.GoesOn.{no-row, never-accepted, ReadAs, read-as, header-refused, header-leaves}
+use Rattle.header_reader.specs.Reading.{signalWith, signalChecks, repairedAnswer, readHeaderOf, patternsOf, headerRead}
+use Rattle.header.specs.Patterns.{beside}
+use Rattle.header.proofs.Beside.{beside-refused}
+use Rattle.header_reader.proofs.Beside.{read-answer, read-patterns}
+use Rattle.header_reader.proofs.GoesOn.{no-row, never-accepted, ReadAs, read-as, header-refused, header-leaves}
 use Rattle.frame.specs.Frames.{Frame, frameWith, repairedHeader, crc13Differs, payloadChecks, frameChecks, frameOf, frameRead}
 
 module _ (h : Header) (flips : ℕ) (payload : List ℕ) where

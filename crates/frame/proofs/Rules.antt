@@ -10,11 +10,11 @@ use Rattle.base.proofs.Exactly.{exactly}
 use Rattle.header.specs.declared.Header.{Header}
 use Rattle.header.specs.declared.Read.{Read}
 use Rattle.header.specs.declared.Answer.the-variants.{Accepted, Refused}
-use Rattle.header.specs.Reading.{repairedAnswer}
-use Rattle.header.specs.Patterns.{beside, patternsOf}
+use Rattle.header_reader.specs.Reading.{repairedAnswer, patternsOf}
+use Rattle.header.specs.Patterns.{beside}
 use Rattle.header.proofs.Beside.{beside-answer, beside-parts}
-use Rattle.header.proofs.GoesOn.{not-refused}
-use Rattle.header.proofs.Accepted.{rules-then-read, rules-then-patterns, read-then-rules}
+use Rattle.header_reader.proofs.GoesOn.{not-refused}
+use Rattle.header_reader.proofs.Accepted.{rules-then-read, rules-then-patterns, read-then-rules}
 use Rattle.frame.specs.Frames.{Frame, frameChecks, frameOf, frameRead}
 use Rattle.frame.specs.Accepting.{Accepts}
 use Rattle.frame.proofs.Payloads.{frame-reads, frame-read-as}

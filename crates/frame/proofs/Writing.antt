@@ -6,7 +6,7 @@ use Prim.Native.Nat.{ℕ}
 use Rattle.base.specs.declared.Edition.{Edition}
 use Rattle.header.specs.declared.Fields.{Fields}
 use Rattle.header.specs.Writing.{headerFor}
-use Rattle.header.specs.Accepting.{AcceptsHeader}
+use Rattle.header_reader.specs.Accepting.{AcceptsHeader}
 use Rattle.frame.specs.Frames.{Frame}
 use Rattle.frame.specs.Accepting.{Accepts}
 

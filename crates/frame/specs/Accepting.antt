@@ -7,7 +7,7 @@ use Prim.Native.Nat.{ℕ}
 use lib.ListN.{length}
 use Rattle.crc.specs.Crc.{crc13Of}
 use Rattle.header.specs.declared.Header.{Header}
-use Rattle.header.specs.Accepting.{AcceptsHeader}
+use Rattle.header_reader.specs.Accepting.{AcceptsHeader}
 use Rattle.frame.specs.Frames.{Frame}
 
 pub record Accepts (f : Frame) (header : Header) (flips : ℕ) (patterns : List ℕ) : Type 0 where

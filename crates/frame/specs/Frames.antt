@@ -14,8 +14,8 @@ use Rattle.header.specs.declared.Read.{Read}
 use Rattle.header.specs.declared.Answer.{Answer}
 use Rattle.header.specs.declared.Answer.the-variants.{Refused}
 use Rattle.header.specs.Fields.{headerOf}
-use Rattle.header.specs.Reading.{Signal, signalWith, signal, signed, repairedBits, signalChecks, repairedAnswer}
-use Rattle.header.specs.Patterns.{beside, patternsOf}
+use Rattle.header_reader.specs.Reading.{Signal, signalWith, signal, signed, repairedBits, signalChecks, repairedAnswer, patternsOf}
+use Rattle.header.specs.Patterns.{beside}
 
 -- a frame as it is offered: what its header is read from, and its payload
 pub record Frame : Type 0 where

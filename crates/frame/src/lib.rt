@@ -54,7 +54,7 @@ pub fn read_frame_with(
     requires { ⌜ now table ≡ syndromes ⌝ }
     ensures { λ r. ⌜ r ≡ frameRead (frameWith rules (callOf given (now (call .entry))) (now (air .entry)) (now (payload .entry))) ⌝ }
 {
-    let read = header::read_header_with(table, rules, given, call, air);
+    let read = header_reader::read_header_with(table, rules, given, call, air);
     let answer = read.answer;
     match answer {
         Answer::Refused(why) => Read {

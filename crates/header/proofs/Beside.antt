@@ -6,15 +6,11 @@ use Prim.Native.Nat.{ℕ}
 use lib.ListN.{replicate}
 use Rattle.base.specs.declared.Refusal.{Refusal}
 use Rattle.air.specs.Air.{wordCount}
-use Rattle.air.specs.WordRepairs.{flipTotal, flipsIn}
-use Rattle.air.proofs.Answers.{flips-are-ones}
 use Rattle.header.specs.declared.Header.{Header}
 use Rattle.header.specs.declared.Read.{Read}
 use Rattle.header.specs.declared.Answer.{Answer}
 use Rattle.header.specs.declared.Answer.the-variants.{Accepted, Refused}
-use Rattle.header.specs.Reading.{Signal, arrived, readHeaderOf}
-use Rattle.header.specs.Patterns.{beside, patternsOf, headerRead}
-use Rattle.header.proofs.GoesOn.{read-as}
+use Rattle.header.specs.Patterns.{beside}
 
 module _ (patterns : List ℕ) (a : Answer) where
   pub beside-accepted : (h : Header) (flips : ℕ) → a ≡ Accepted h flips → _≡_ {A = Read} (record { answer = Accepted h flips; patterns = patterns }) (beside patterns a)
@@ -34,23 +30,3 @@ pub beside-parts : (patterns : List ℕ) (a : Answer) (h : Header) (flips : ℕ)
 beside-parts patterns a h flips others e =
     let answer : a ≡ Accepted h flips = sym (beside-answer patterns a) ∙ ap (λ (r : Read). r .answer) e in
     (answer, sym (ap (λ (b : Answer). beside patterns b .patterns) answer) ∙ ap (λ (r : Read). r .patterns) e)
-
--- what a header that was read says
-module _ (s : Signal) (r : Read) (is : r ≡ headerRead s) where
-  pub read-answer : r .answer ≡ readHeaderOf s
-  unfolding headerRead
-  read-answer = ap (λ (x : Read). x .answer) is ∙ beside-answer (patternsOf s) (readHeaderOf s)
-
-  -- of an accepted one, the patterns of its words
-  pub read-patterns : (h : Header) (flips : ℕ) → r .answer ≡ Accepted h flips → r .patterns ≡ patternsOf s
-  unfolding headerRead
-  read-patterns h flips e =
-      let same : readHeaderOf s ≡ Accepted h flips = sym read-answer ∙ e in
-      ap (λ (x : Read). x .patterns) is ∙ ap (λ (a : Answer). beside (patternsOf s) a .patterns) same
-
--- "the total being their ones"
-pub read-total : (s : Signal) (h : Header) (flips : ℕ) (patterns : List ℕ) → headerRead s ≡ record { answer = Accepted h flips; patterns = patterns } → flips ≡ flipTotal patterns
-read-total s h flips patterns e =
-    let r : Read = record { answer = Accepted h flips; patterns = patterns } in
-    let same : flipsIn (arrived s) ≡ flips = cc (read-as s h flips (sym (read-answer s r (sym e))) .is) in
-    sym same ∙ flips-are-ones (arrived s) ∙ ap flipTotal (sym (read-patterns s r (sym e) h flips refl))

@@ -1,8 +1,5 @@
 pub mod Unpacking
 pub mod WordData
-pub mod Passed
-pub mod Judging
-pub mod Rows
 pub mod Beside
 pub mod Ranges
 pub mod Coding
@@ -10,11 +7,4 @@ pub mod Packing
 pub mod Refusing
 pub mod Places
 pub mod Carried
-pub mod RoundTrip
-pub mod OtherEdition
 pub mod WrittenAir
-pub mod GoesOn
-pub mod Given
-pub mod Accepted
-pub mod Damage
-pub mod Writing

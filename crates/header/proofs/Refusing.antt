@@ -1,17 +1,20 @@
 -- The writer's answer, row by row of the paper's table, each behind those before it: rows 13 to 15, and what is written where none applies.
+-- Each is given exactly when its row is the first that applies.
 -- Assumes nothing.
 use mathlib.Core.Path.{_≡_, refl, ap, _∙_}
 use mathlib.Core.List.{List, [], _∷_, _++_}
 use Prim.Native.Nat.{ℕ, _≤_, _<_}
 use lib.ListN.{length, drop}
 use borrow.Author.Tests.{lt-ltb, le-ltb}
+use Rattle.base.specs.declared.Refusal.{Refusal}
 use Rattle.base.specs.declared.Written.the-variants.{Done, Refused}
 use Rattle.base.specs.declared.Edition.{Edition}
-use Rattle.base.specs.Checks.{first, refusal}
+use Rattle.base.specs.Checks.{Exactly, first, refusal}
+use Rattle.base.proofs.Exactly.{exactly, done-apart}
 use Rattle.air.specs.Air.{airBits, payloadLimit, airOf}
 use Rattle.header.specs.declared.Fields.{Fields}
 use Rattle.header.specs.Fields.{fieldCount, valuesOf, codedOf}
-use Rattle.header.specs.Writing.{firstOver, outOfRange, longPayload, writeHeaderOf, bitsFor, airFor, HeaderWritten}
+use Rattle.header.specs.Writing.{firstOver, outOfRange, longPayload, writeChecks, writeHeaderOf, bitsFor, airFor, HeaderWritten}
 
 -- the words that are sent are those of the header's bits
 pub sent-written : (edition : Edition) (f : Fields) (payload words out after : List ℕ) (n : ℕ) → words ≡ codedOf n → n ≡ bitsFor edition f payload → after ≡ airOf words ++ drop airBits out → after ≡ airFor edition f payload ++ drop airBits out
@@ -43,3 +46,8 @@ module _ (edition : Edition) (f : Fields) (payload out : List ℕ) where
 
       pub writes : length payload ≤ payloadLimit → (after : List ℕ) → after ≡ airFor edition f payload ++ drop airBits out → HeaderWritten edition f payload out Done after
       writes h after e = record { answered = rw (← past-14, le-ltb payloadLimit (length payload) h); bytes = e }
+
+-- "given exactly when"
+pub write-exactly : (edition : Edition) (f : Fields) (payload : List ℕ) (room : ℕ) (why : Refusal) → Exactly (writeHeaderOf edition f payload room) (Refused why) (writeChecks edition f payload room)
+unfolding writeHeaderOf
+write-exactly edition f payload room why = exactly Done (Refused why) (writeChecks edition f payload room) (done-apart why)

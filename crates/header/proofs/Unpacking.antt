@@ -2,19 +2,19 @@
 -- Assumes nothing.
 use mathlib.Core.Path.{_≡_, sym, ap, _∙_}
 use mathlib.Core.List.{List, [], _∷_, _++_}
-use Prim.Native.Nat.{ℕ, _+_, _*_, _%_, _<_, _^_}
+use Prim.Native.Nat.{ℕ, _+_, _%_, _<_, _^_}
 use native.Mathlib.Nat.{div-one, mod-eq-of-lt, zero-add}
-use Rattle.base.specs.Parts.{partsOf, joined}
+use Rattle.base.specs.Parts.{joined}
 use Rattle.base.proofs.Joined.{parts-append, join-parts}
 use Rattle.header.specs.declared.Header.{Header}
 use Rattle.header.specs.Fields.{widths, valuesOf, headerFrom, headerOf}
 use Rattle.crc.specs.Halves.{headerBits, loWidth}
 use Rattle.crc.specs.Crc5.{headerWidth}
-use Rattle.header.specs.HalfWidths.{lowerWidths, upperWidths}
+use Rattle.header.specs.HalfWidths.{lowerWidths, upperWidths, halvesHeader}
 
-pub unpacked : (hi lo : ℕ) → lo < 2 ^ loWidth → headerFrom (partsOf upperWidths hi ++ partsOf lowerWidths lo) ≡ headerOf (headerBits hi lo)
-unfolding headerOf
-unpacked hi lo h = ap headerFrom (sym (parts-append upperWidths lowerWidths hi lo h))
+pub unpacked : (h : Header) (hi lo : ℕ) → h ≡ halvesHeader hi lo → lo < 2 ^ loWidth → h ≡ headerOf (headerBits hi lo)
+unfolding headerOf halvesHeader
+unpacked h hi lo is small = is ∙ ap headerFrom (sym (parts-append upperWidths lowerWidths hi lo small))
 
 -- the values of a header's 17 fields, and that its bits are made of them
 abbrev pub valuesIn : Header → List ℕ

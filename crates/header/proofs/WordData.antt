@@ -10,17 +10,13 @@ use lib.Dec.{lit<, lit≤}
 use lib.ListN.{length, getD, take, drop, replicate, length-map, length-take, length-drop, take-append-drop, drop-of-length-le}
 use lib.Pow.{pow-add, pow-mono}
 use lib.Seq.{drop-cons, take-all, getD-drop, length-take-le}
-use mir.Syntax.{w64}
+use mir.Syntax.{w16, w64}
 use mir.Val.{Fits}
 use Rattle.base.specs.Parts.{joinedFrom, joined, InWidths, none, part}
 use Rattle.base.proofs.Joined.{join-above, join-lt, join-append}
 use Rattle.word.specs.Words.{wordLimit, dataOf}
 use Rattle.air.specs.Air.{wordCount}
-use Rattle.sign.specs.Calls.{Call}
-use Rattle.header.specs.declared.Answer.{Answer}
 use Rattle.header.specs.Fields.{dataWidths, bitsOfWords}
-use Rattle.header.specs.declared.Rules.{Rules}
-use Rattle.header.specs.Reading.{judgedOf}
 use Rattle.crc.specs.Halves.{headerBits, hiWidth, loWidth}
 
 -- all are words
@@ -31,10 +27,10 @@ AreWords l = (k : ℕ) → getD l k 0 < wordLimit
 abbrev dataFrom : ℕ → List ℕ → ℕ
 dataFrom above l = joinedFrom above (replicate (length l) 5) (map dataOf l)
 
--- the data of the words before i is in the number
+-- the data of the words before i is in the number: six bits each, where they are any 16 bits
 pub record Gathered (words : List ℕ) (i number : ℕ) : Type 0 where
   pub inside : i ≤ length words
-  pub small : number < 2 ^ (5 * i)
+  pub small : number < 2 ^ (6 * i)
   pub left : dataFrom 0 words ≡ dataFrom number (drop i words)
 
 pub gather-starts : (words : List ℕ) → Gathered words 0 0
@@ -44,16 +40,16 @@ module _ (words : List ℕ) (i number : ℕ) (so : Gathered words i number) wher
   pub gather-ends : length words ≤ i → number ≡ joined (replicate (length words) 5) (map dataOf words)
   gather-ends h = sym (so .left ∙ ap (dataFrom number) (drop-of-length-le words {i = i} h))
 
-  module _ (few : length words ≤ 8) (ok : AreWords words) (h : i < length words) where
-    room : number < 2 ^ 35
-    room = lt-of-lt-of-le (so .small) (pow-mono {i = 5 * i} {j = 35} (omega arith))
+  module _ (few : length words ≤ 8) (ok : (k : ℕ) → Fits w16 (getD words k 0)) (h : i < length words) where
+    room : number < 2 ^ 42
+    room = lt-of-lt-of-le (so .small) (pow-mono {i = 6 * i} {j = 42} (omega arith))
 
     pub number-fits : Fits w64 (number * 32)
     number-fits = record { fits = omega (arith, room) }
 
     module _ (d : ℕ) (is : d ≡ dataOf (getD words i 0)) where
-      data-small : d < 32
-      data-small = rw is (omega (arith, ok i))
+      data-small : d < 64
+      data-small = rw is (omega (arith, ok i .fits))
 
       pub joined-fits : Fits w64 (number * 32 + d)
       joined-fits = record { fits = omega (arith, room, data-small) }
@@ -61,7 +57,7 @@ module _ (words : List ℕ) (i number : ℕ) (so : Gathered words i number) wher
       pub gather-goes-on : Gathered words (i + 1) (number * 32 + d)
       gather-goes-on = record {
         inside = omega arith;
-        small = let e : 5 * (i + 1) ≡ 5 * i + 5 = omega arith in rw (e, pow-add) (omega (arith, so .small, data-small));
+        small = let e : 6 * (i + 1) ≡ 6 * i + 6 = omega arith in rw (e, pow-add) (omega (arith, so .small, data-small));
         left = so .left ∙ rw (drop-cons words i 0 h, add-one, is);
       }
 
@@ -90,10 +86,10 @@ upper-few words = take-few 6 8 words (lit≤ tt)
 pub lower-few : (words : List ℕ) → length (take 8 (drop 6 words)) ≤ 8
 lower-few words = take-few 8 8 (drop 6 words) (lit≤ tt)
 
-pub upper-words : (words : List ℕ) → AreWords words → AreWords (take 6 words)
+upper-words : (words : List ℕ) → AreWords words → AreWords (take 6 words)
 upper-words words ok = words-take 6 words ok
 
-pub lower-words : (words : List ℕ) → AreWords words → AreWords (take 8 (drop 6 words))
+lower-words : (words : List ℕ) → AreWords words → AreWords (take 8 (drop 6 words))
 lower-words words ok = words-take 8 (drop 6 words) (words-drop 6 words ok)
 
 -- fourteen words: six above make `hi`, and eight below make `lo`
@@ -123,7 +119,3 @@ module _ (words : List ℕ) (long : length words ≡ wordCount) (ok : AreWords w
       (sym (join-above (joined (replicate 6 5) (map dataOf (take 6 words))) lower-within)
       ∙ sym (join-append 0 (replicate 6 5) (replicate 8 5) (map dataOf (take 6 words)) (map dataOf (take 8 (drop 6 words))) (sym (length-map (take 6 words) dataOf ∙ upper-long)))
       ∙ ap (joined dataWidths) (sym (map-append dataOf (take 6 words) (take 8 (drop 6 words))) ∙ ap (map dataOf) whole))
-
-  -- so what is judged of the two numbers is judged of the words
-  pub judged-halves : (rules : Rules) (call : Call) (flips : ℕ) (r : Answer) → r ≡ judgedOf rules call flips (headerBits hi lo) → r ≡ judgedOf rules call flips (bitsOfWords words)
-  judged-halves rules call flips r e = rw halves at e

@@ -4,21 +4,11 @@ use mathlib.Core.List.{List}
 use Prim.Native.Nat.{ℕ}
 use lib.ListN.{replicate}
 use Rattle.air.specs.Air.{wordCount}
-use Rattle.air.specs.WordRepairs.{patternsIn}
 use Rattle.header.specs.declared.Read.{Read}
 use Rattle.header.specs.declared.Answer.{Answer}
 use Rattle.header.specs.declared.Answer.the-variants.{Accepted, Refused}
-use Rattle.header.specs.Reading.{Signal, arrived, readHeaderOf}
 
 -- "beside a refusal, which itself still carries number and place only, all fourteen are 0"
 abbrev pub beside : List ℕ → Answer → Read
 beside patterns (Accepted h flips) = record { answer = Accepted h flips; patterns = patterns }
 beside patterns (Refused why) = record { answer = Refused why; patterns = replicate wordCount 0 }
-
--- the patterns of the words that arrived
-abbrev pub patternsOf : Signal → List ℕ
-patternsOf s = patternsIn (arrived s)
-
--- a header alone, read
-unfoldable pub headerRead : Signal → Read
-headerRead s = beside (patternsOf s) (readHeaderOf s)

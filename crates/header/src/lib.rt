@@ -1,13 +1,11 @@
-// The header: its fields, and the reader of a header alone (refusals 20, 1, 2, 23, 3, 21, 4, 5, 24, 6). The writer is `header_writer`.
-mod reading;
+// The header: its fields, how it is read, and what is answered. The reader is `header_reader`, the writer `header_writer`.
+mod bits;
 
 use air::WORD_COUNT;
 use base::Edition;
 use base::Refusal;
-pub use reading::read_header;
-pub use reading::read_header_in;
-pub use reading::read_header_signed;
-pub use reading::read_header_with;
+pub use bits::collect;
+pub use bits::unpack;
 ghost use mathlib.Core.Path.{_≡_};
 ghost use Prim.Native.Nat.{_+_};
 ghost use Rattle.header.specs.Fields.{lastSourceOf, satelliteOf, radioOf};

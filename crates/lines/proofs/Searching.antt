@@ -1,14 +1,15 @@
 -- The lines of a search put together from their parts.
 -- Assumes nothing.
 use mathlib.Core.Path.{_≡_}
-use mathlib.Core.List.{List}
+use mathlib.Core.List.{List, [], _∷_}
 use Prim.Native.Nat.{ℕ, _+_, _≤_}
 use native.Mathlib.Omega.{arith}
 use lib.ListN.{length}
 use Rattle.base.specs.declared.Refusal.{Refusal}
 use Rattle.base.specs.declared.Edition.{Edition}
 use Rattle.text.specs.Text.{ascii, Put}
-use Rattle.text.proofs.Laid.{put-none, put-three}
+use Rattle.text.specs.Forms.{formOf}
+use Rattle.text.proofs.Laid.{put-none}
 use Rattle.air.specs.WordRepairs.{worstOf}
 use Rattle.header.specs.declared.Header.{Header}
 use Rattle.header.specs.declared.Read.{Read}
@@ -16,7 +17,8 @@ use Rattle.header.specs.declared.Answer.the-variants.{Accepted, Refused}
 use Rattle.lines.specs.declared.Tally.{Tally}
 use Rattle.lines.specs.declared.Stop.{Stop}
 use Rattle.lines.specs.declared.Stop.the-variants.{Nowhere, Stopped}
-use Rattle.lines.specs.Lines.{fieldOf, acceptedLine, refusedLine, countsOf}
+use Rattle.lines.specs.Tallies.{totalOf}
+use Rattle.lines.specs.Lines.{acceptedLine, refusedLine}
 use Rattle.lines.specs.Rooms.{lineRoom}
 use Rattle.lines.specs.Recordings.{heading, reportLine, stopOf, lastOf}
 
@@ -38,11 +40,11 @@ module _ {l m : List ℕ} {at next : ℕ} where
 pub stop-nowhere : (l : List ℕ) (at : ℕ) (stop : Stop) → stop ≡ Nowhere → at + lineRoom ≤ length l → Put l at (stopOf stop) l at
 stop-nowhere l at stop e h = rw e (put-none (omega arith))
 
-pub stop-stopped : {l m n o : List ℕ} {at p q r : ℕ} (stop : Stop) (why : Refusal) → stop ≡ Stopped why
-    → Put l at (ascii "stopped ") m p → Put m p (fieldOf (why .number) " ") n q → Put n q (fieldOf (why .place) "\n") o r → Put l at (stopOf stop) o r
-stop-stopped stop why e first second third = rw e (put-three first second third)
+pub stop-stopped : {l m : List ℕ} {at p : ℕ} (stop : Stop) (why : Refusal) → stop ≡ Stopped why
+    → Put l at (formOf (ascii "stopped % %\n") (why .number ∷ why .place ∷ []) []) m p → Put l at (stopOf stop) m p
+stop-stopped stop why e put = rw e put
 
-pub put-found : {l m n o : List ℕ} {at p q r : ℕ} (bits : ℕ) (tally : Tally)
-    → Put l at (ascii "bits ") m p → Put m p (fieldOf bits " headers ") n q → Put n q (countsOf tally) o r → Put l at (lastOf bits tally) o r
+pub put-found : {l m : List ℕ} {at p : ℕ} (bits : ℕ) (tally : Tally) (heard : ℕ) → heard ≡ totalOf tally
+    → Put l at (formOf (ascii "bits % headers % accepted % refused %\n") (bits ∷ heard ∷ tally .accepted ∷ tally .refused ∷ []) []) m p → Put l at (lastOf bits tally) m p
 unfolding lastOf
-put-found bits tally first second third = put-three first second third
+put-found bits tally heard is put = rw (← is) put

@@ -3,11 +3,11 @@
 use mathlib.Core.Bool.{Bool, cond}
 use mathlib.Core.List.{List, [], _∷_, _++_}
 use Prim.Native.Nat.{ℕ, _+_}
-use Prim.Native.String.{String}
 use Rattle.base.specs.declared.Refusal.{Refusal}
 use Rattle.base.specs.declared.Edition.{Edition}
 use Rattle.base.specs.declared.Edition.the-variants.{Flown, Corrected}
-use Rattle.text.specs.Text.{ascii, decimalOf}
+use Rattle.text.specs.Text.{ascii}
+use Rattle.text.specs.Forms.{formOf}
 use Rattle.air.specs.WordRepairs.{worstOf}
 use Rattle.header.specs.declared.Read.{Read}
 use Rattle.header.specs.declared.Answer.{Answer}
@@ -15,10 +15,6 @@ use Rattle.header.specs.declared.Answer.the-variants.{Accepted, Refused}
 use Rattle.header.specs.Fields.{satelliteOf, radioOf}
 use Rattle.lines.specs.declared.Tally.{Tally}
 use Rattle.lines.specs.Tallies.{totalOf}
-
--- a number and what stands after it
-abbrev pub fieldOf : ℕ → String → List ℕ
-fieldOf n letters = decimalOf n ++ ascii letters
 
 -- the first line
 unfoldable pub title : List ℕ
@@ -28,24 +24,16 @@ title = ascii "pass sheet\n"
 abbrev pub letterOf : ℕ → ℕ
 letterOf srcId = 65 + satelliteOf srcId
 
--- who spoke: `B radio 2`; under the corrected edition "a frame is given to no S-NET satellite: the listing writes `source 97`"
-unfoldable pub speakerOf : Edition → ℕ → List ℕ
-speakerOf Flown srcId = (letterOf srcId ∷ []) ++ ascii " radio " ++ decimalOf (radioOf srcId)
-speakerOf Corrected srcId = ascii "source " ++ decimalOf srcId
-
--- `3 accepted B radio 2 tx 5 repaired 7 worst 4 bytes 42`, or another word before the last number
-abbrev pub openingOf : Edition → ℕ → ℕ → List ℕ
-openingOf edition k srcId = fieldOf k " accepted " ++ speakerOf edition srcId
-
-abbrev pub damageOf : ℕ → ℕ → ℕ → List ℕ → ℕ → List ℕ
-damageOf tx flips worst word n = fieldOf tx " repaired " ++ fieldOf flips " worst " ++ (decimalOf worst ++ word) ++ fieldOf n "\n"
-
+-- `3 accepted B radio 2 tx 5 repaired 7 worst 4 bytes 42`, or another word before the last number;
+-- under the corrected edition "a frame is given to no S-NET satellite: the listing writes `source 97`"
 abbrev pub acceptedLine : Edition → ℕ → ℕ → ℕ → ℕ → ℕ → List ℕ → ℕ → List ℕ
-acceptedLine edition k srcId tx flips worst word n = openingOf edition k srcId ++ ascii " tx " ++ damageOf tx flips worst word n
+acceptedLine Flown k srcId tx flips worst word n =
+    formOf (ascii "% accepted # radio % tx % repaired % worst %&%\n") (k ∷ letterOf srcId ∷ radioOf srcId ∷ tx ∷ flips ∷ worst ∷ n ∷ []) word
+acceptedLine Corrected k srcId tx flips worst word n = formOf (ascii "% accepted source % tx % repaired % worst %&%\n") (k ∷ srcId ∷ tx ∷ flips ∷ worst ∷ n ∷ []) word
 
 -- `0 refused 4 6`: "a refused one gives the refusal and its place"
 abbrev pub refusedLine : ℕ → Refusal → List ℕ
-refusedLine k why = fieldOf k " refused " ++ fieldOf (why .number) " " ++ fieldOf (why .place) "\n"
+refusedLine k why = formOf (ascii "% refused % %\n") (k ∷ why .number ∷ why .place ∷ []) []
 
 -- the line of record k with so many payload bytes: "Each record's line opens with its number, from 0"
 abbrev pub lineFor : Edition → ℕ → ℕ → List ℕ → Answer → List ℕ
@@ -55,13 +43,9 @@ lineFor edition k bytes patterns (Refused why) = refusedLine k why
 abbrev pub lineOf : Edition → ℕ → ℕ → Read → List ℕ
 lineOf edition k bytes read = lineFor edition k bytes (read .patterns) (read .answer)
 
--- the end of a last line: all, and of these the accepted and the refused
-abbrev pub countsOf : Tally → List ℕ
-countsOf tally = fieldOf (totalOf tally) " accepted " ++ fieldOf (tally .accepted) " refused " ++ fieldOf (tally .refused) "\n"
-
 -- `heard 1 accepted 0 refused 1`
 unfoldable pub lastLine : Tally → List ℕ
-lastLine tally = ascii "heard " ++ countsOf tally
+lastLine tally = formOf (ascii "heard % accepted % refused %\n") (totalOf tally ∷ tally .accepted ∷ tally .refused ∷ []) []
 
 -- "prints `cut`, then the last line with the counts so far"
 unfoldable pub cutLine : List ℕ

@@ -1,9 +1,10 @@
 -- The text of a search through a recording: "recording", a line for each report, and the last line with the counts.
 -- Assumes nothing.
-use mathlib.Core.List.{List, [], _++_}
+use mathlib.Core.List.{List, [], _∷_, _++_}
 use Prim.Native.Nat.{ℕ}
 use Rattle.base.specs.declared.Edition.{Edition}
 use Rattle.text.specs.Text.{ascii}
+use Rattle.text.specs.Forms.{formOf}
 use Rattle.air.specs.WordRepairs.{worstOf}
 use Rattle.header.specs.declared.Read.{Read}
 use Rattle.header.specs.declared.Answer.{Answer}
@@ -11,7 +12,8 @@ use Rattle.header.specs.declared.Answer.the-variants.{Accepted, Refused}
 use Rattle.lines.specs.declared.Tally.{Tally}
 use Rattle.lines.specs.declared.Stop.{Stop}
 use Rattle.lines.specs.declared.Stop.the-variants.{Nowhere, Stopped}
-use Rattle.lines.specs.Lines.{fieldOf, acceptedLine, refusedLine, countsOf}
+use Rattle.lines.specs.Tallies.{totalOf}
+use Rattle.lines.specs.Lines.{acceptedLine, refusedLine}
 
 -- the first line
 unfoldable pub heading : List ℕ
@@ -29,11 +31,11 @@ reportLine edition place read = reportFor edition place (read .patterns) (read .
 -- `stopped 19 77`: the refusal, and the first byte that is not taken
 abbrev pub stopOf : Stop → List ℕ
 stopOf Nowhere = []
-stopOf (Stopped why) = ascii "stopped " ++ fieldOf (why .number) " " ++ fieldOf (why .place) "\n"
+stopOf (Stopped why) = formOf (ascii "stopped % %\n") (why .number ∷ why .place ∷ []) []
 
 -- `bits 34560000 headers 2 accepted 1 refused 1`
 unfoldable pub lastOf : ℕ → Tally → List ℕ
-lastOf bits tally = ascii "bits " ++ fieldOf bits " headers " ++ countsOf tally
+lastOf bits tally = formOf (ascii "bits % headers % accepted % refused %\n") (bits ∷ totalOf tally ∷ tally .accepted ∷ tally .refused ∷ []) []
 
 abbrev pub endingOf : ℕ → Tally → Stop → List ℕ
 endingOf bits tally stop = stopOf stop ++ lastOf bits tally

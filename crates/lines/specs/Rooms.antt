@@ -1,28 +1,42 @@
--- For contracts inside: the most bytes that lines take.
+-- For contracts inside: the parts in which the line of an accepted record is put, and the most bytes that lines take.
 -- Assumes nothing.
-use Prim.Native.Nat.{ℕ, _+_, _*_}
-use Rattle.text.specs.Text.{mostDigits}
+use mathlib.Core.List.{List, [], _∷_}
+use Prim.Native.Nat.{ℕ}
+use lib.ListN.{length}
+use Rattle.base.specs.declared.Edition.{Edition}
+use Rattle.base.specs.declared.Edition.the-variants.{Flown, Corrected}
+use Rattle.text.specs.Text.{ascii}
+use Rattle.text.specs.Forms.{formOf, roomOf}
+use Rattle.header.specs.Fields.{radioOf}
+use Rattle.lines.specs.Lines.{letterOf}
 
--- who spoke: a number and 8 others
+-- who spoke
+unfoldable pub speakerOf : Edition → ℕ → List ℕ
+speakerOf Flown srcId = formOf (ascii "# radio %") (letterOf srcId ∷ radioOf srcId ∷ []) []
+speakerOf Corrected srcId = formOf (ascii "source %") (srcId ∷ []) []
+
 abbrev pub speakerRoom : ℕ
-speakerRoom = mostDigits + 8
+speakerRoom = roomOf (ascii "# radio %") []
 
--- the opening of an accepted record's line: one number more, and 10 others
+-- up to there
+unfoldable pub openingOf : Edition → ℕ → ℕ → List ℕ
+openingOf Flown k srcId = formOf (ascii "% accepted # radio %") (k ∷ letterOf srcId ∷ radioOf srcId ∷ []) []
+openingOf Corrected k srcId = formOf (ascii "% accepted source %") (k ∷ srcId ∷ []) []
+
 abbrev pub openingRoom : ℕ
-openingRoom = mostDigits + 10 + speakerRoom
+openingRoom = roomOf (ascii "% accepted # radio %") []
 
--- the name of its last number
+-- the counter, the flips, the word with the most of them, and a number that is named
+unfoldable pub damageOf : ℕ → ℕ → ℕ → List ℕ → ℕ → List ℕ
+damageOf tx flips worst name n = formOf (ascii "% repaired % worst %&%\n") (tx ∷ flips ∷ worst ∷ n ∷ []) name
+
+-- the longest name, and that part with it
 abbrev pub nameRoom : ℕ
-nameRoom = 8
+nameRoom = length (ascii " length ")
 
--- the end of that line: four numbers, this name and 18 others
 abbrev pub damageRoom : ℕ
-damageRoom = 4 * mostDigits + nameRoom + 18
+damageRoom = roomOf (ascii "% repaired % worst %&%\n") (ascii " length ")
 
--- a line: six numbers and 48 others. So a line is shorter than its record.
+-- the longest line
 abbrev pub lineRoom : ℕ
-lineRoom = 6 * mostDigits + 48
-
--- the end of a last line: three numbers and 20 others
-abbrev pub countsRoom : ℕ
-countsRoom = 3 * mostDigits + 20
+lineRoom = roomOf (ascii "% accepted # radio % tx % repaired % worst %&%\n") (ascii " length ")

@@ -8,10 +8,9 @@ ghost use mathlib.Core.List.{_++_};
 ghost use Prim.Native.Nat.{_+_, _*_, _<_, _≤_};
 ghost use lib.ListN.{length};
 ghost use Rattle.text.specs.Text.{decimalOf, mostDigits, Put};
-ghost use Rattle.header.specs.Fields.{radioOf};
 ghost use Rattle.lines.specs.Tallies.{mostCounted, totalOf, tallyAfter};
-ghost use Rattle.lines.specs.Lines.{title, letterOf, speakerOf, openingOf, damageOf, acceptedLine, refusedLine, lineOf, countsOf, lastLine, closingOf};
-ghost use Rattle.lines.specs.Rooms.{speakerRoom, openingRoom, nameRoom, damageRoom, countsRoom, lineRoom};
+ghost use Rattle.lines.specs.Lines.{title, letterOf, acceptedLine, refusedLine, lineOf, lastLine, closingOf};
+ghost use Rattle.lines.specs.Rooms.{speakerOf, speakerRoom, openingOf, openingRoom, damageOf, nameRoom, damageRoom, lineRoom};
 
 // How many records were accepted so far, and how many refused.
 pub struct Tally {
@@ -55,8 +54,17 @@ pub fn count(tally: Tally, answer: Answer) -> Tally
     }
 }
 
+// A to D for the sources 0 to 7.
+pub fn letter(src_id: u8) -> u8
+    ensures { λ r. ⌜ r ≡ letterOf «src_id» ⌝ }
+{
+    b'A' + header::satellite(src_id)
+}
+
+// The lines of a listing are put part by part: `put_form` reads its form letter by letter, and the flown listing would be slower.
+
 // Puts three numbers, each with a text after it.
-pub fn put_three(
+fn put_three(
     out: &mut [u8],
     at: usize,
     x: u64,
@@ -75,19 +83,6 @@ pub fn put_three(
     text::put_field(out, b, z, after_z)
 }
 
-// A to D for the sources 0 to 7.
-fn letter(src_id: u8) -> u8
-    ensures { λ r. ⌜ r ≡ letterOf «src_id» ⌝ }
-{
-    b'A' + header::satellite(src_id)
-}
-
-fn radio(src_id: u8) -> u64
-    ensures { λ r. ⌜ r ≡ radioOf «src_id» ⌝ }
-{
-    header::radio(src_id) as u64
-}
-
 // Puts who spoke, as `B radio 2`.
 fn put_radio(out: &mut [u8], at: usize, src_id: u8) -> usize
     requires { ⌜ at + speakerRoom ≤ length (now out) ⌝ }
@@ -97,10 +92,10 @@ fn put_radio(out: &mut [u8], at: usize, src_id: u8) -> usize
     let name = [letter(src_id)];
     let a = text::put_text(out, at, &name);
     let b = text::put_text(out, a, b" radio ");
-    text::put_decimal(out, b, radio(src_id))
+    text::put_decimal(out, b, header::radio(src_id) as u64)
 }
 
-// Puts who spoke, as `source 97`.
+// Puts who spoke, as `source 97`: under the corrected edition a frame is given to no S-NET satellite.
 fn put_number(out: &mut [u8], at: usize, src_id: u8) -> usize
     requires { ⌜ at + speakerRoom ≤ length (now out) ⌝ }
     ensures { λ r. ⌜ Put (now (out .entry)) at (speakerOf Edition.Corrected «src_id») (now (out .exit)) r ⌝ }
@@ -110,18 +105,6 @@ fn put_number(out: &mut [u8], at: usize, src_id: u8) -> usize
     text::put_decimal(out, a, src_id as u64)
 }
 
-// Puts who spoke: under the corrected edition a frame is given to no S-NET satellite.
-pub fn put_speaker(out: &mut [u8], at: usize, edition: Edition, src_id: u8) -> usize
-    requires { ⌜ at + speakerRoom ≤ length (now out) ⌝ }
-    ensures { λ r. ⌜ Put (now (out .entry)) at (speakerOf edition «src_id») (now (out .exit)) r ⌝ }
-    ensures { λ r. ⌜ r ≤ at + speakerRoom ⌝ }
-{
-    match edition {
-        Edition::Flown => put_radio(out, at, src_id),
-        Edition::Corrected => put_number(out, at, src_id),
-    }
-}
-
 // Opens the line of an accepted record k.
 fn put_opening(out: &mut [u8], at: usize, edition: Edition, k: u64, src_id: u8) -> usize
     requires { ⌜ at + openingRoom ≤ length (now out) ⌝ }
@@ -129,7 +112,10 @@ fn put_opening(out: &mut [u8], at: usize, edition: Edition, k: u64, src_id: u8) 
     ensures { λ r. ⌜ r ≤ at + openingRoom ⌝ }
 {
     let a = text::put_field(out, at, k, b" accepted ");
-    put_speaker(out, a, edition, src_id)
+    match edition {
+        Edition::Flown => put_radio(out, a, src_id),
+        Edition::Corrected => put_number(out, a, src_id),
+    }
 }
 
 // Puts the rest of it: the counter, the flips, the word with the most of them, and a number that is named.
@@ -235,14 +221,14 @@ pub fn put_title(out: &mut [u8]) -> usize
     text::put_text(out, 0, b"pass sheet\n")
 }
 
-// Puts the end of a last line: all that was heard, and of these the accepted and the refused.
-pub fn put_counts(out: &mut [u8], at: usize, tally: Tally) -> usize
-    requires { ⌜ at + countsRoom ≤ length (now out) ⌝ }
-    ensures { λ r. ⌜ Put (now (out .entry)) at (countsOf tally) (now (out .exit)) r ⌝ }
+fn put_last(out: &mut [u8], at: usize, tally: Tally) -> usize
+    requires { ⌜ at + lineRoom ≤ length (now out) ⌝ }
+    ensures { λ r. ⌜ Put (now (out .entry)) at (lastLine tally) (now (out .exit)) r ⌝ }
 {
+    let a = text::put_text(out, at, b"heard ");
     put_three(
         out,
-        at,
+        a,
         total(tally),
         b" accepted ",
         tally.accepted as u64,
@@ -250,14 +236,6 @@ pub fn put_counts(out: &mut [u8], at: usize, tally: Tally) -> usize
         tally.refused as u64,
         b"\n",
     )
-}
-
-fn put_last(out: &mut [u8], at: usize, tally: Tally) -> usize
-    requires { ⌜ at + lineRoom ≤ length (now out) ⌝ }
-    ensures { λ r. ⌜ Put (now (out .entry)) at (lastLine tally) (now (out .exit)) r ⌝ }
-{
-    let a = text::put_text(out, at, b"heard ");
-    put_counts(out, a, tally)
 }
 
 // Puts the last line, after `cut` where the input was cut.

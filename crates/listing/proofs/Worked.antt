@@ -7,6 +7,7 @@ use lib.ListN.{replicate}
 use Rattle.base.specs.Lists.{tabulate, sumTo, lowest}
 use Rattle.base.specs.declared.Edition.the-variants.{Flown}
 use Rattle.text.specs.Text.{ascii, decimalOf}
+use Rattle.text.specs.Forms.{formOf}
 use Rattle.word.specs.Words.{multipleOf, distance}
 use Rattle.word.specs.Repairs.{nearest, repairOf}
 use Rattle.crc.specs.Crc.{crcStep}
@@ -24,15 +25,15 @@ use Rattle.listing.specs.Listing.{listingOf}
 
 -- "Empty input gives the first line and `heard 0 accepted 0 refused 0`."
 pub no-record : (rules : Rules) → listingOf rules [] ≡ ascii "pass sheet\nheard 0 accepted 0 refused 0\n"
-unfolding listingOf walkOf title lastLine decimalOf
+unfolding listingOf walkOf title lastLine formOf decimalOf
 no-record rules = refl
 
 -- "Any rest that is no whole record cuts, one lone length byte too."
 pub lone-byte : (rules : Rules) → listingOf rules (0 ∷ []) ≡ ascii "pass sheet\ncut\nheard 0 accepted 0 refused 0\n"
-unfolding listingOf walkOf cutOf title lastLine cutLine decimalOf
+unfolding listingOf walkOf cutOf title lastLine cutLine formOf decimalOf
 lone-byte rules = refl
 
 -- "Output for one record with length 0 and 210 zeros, whole"
 pub one-record : listingOf (listedRules Flown) (replicate (recordSize 0) 0) ≡ ascii "pass sheet\n0 refused 4 6\nheard 1 accepted 0 refused 1\n"
-unfolding listingOf walkOf title lastLine decimalOf sumTo cutOf frameOf frameRead tabulate lowest multipleOf distance onesIn nearest repairOf crcStep message nineBytes crc5Over countedFlown crc5Of wordAt wordsOf firstNoBit firstBeyond repairedOf patternsIn flipsIn headerOf bitsOfWords flatMap
+unfolding listingOf walkOf title lastLine formOf decimalOf sumTo cutOf frameOf frameRead tabulate lowest multipleOf distance onesIn nearest repairOf crcStep message nineBytes crc5Over countedFlown crc5Of wordAt wordsOf firstNoBit firstBeyond repairedOf patternsIn flipsIn headerOf bitsOfWords flatMap
 one-record = refl

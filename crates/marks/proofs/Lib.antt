@@ -9,4 +9,3 @@ pub mod Cuts
 pub mod Asked
 pub mod Exactly
 pub mod Runs
-pub mod Walk

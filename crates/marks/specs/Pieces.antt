@@ -5,7 +5,6 @@ use mathlib.Core.Bool.{true, false, cond}
 use mathlib.Core.List.{List, [], _∷_, _++_}
 use lib.Dec.{ltb}
 use lib.ListN.{length, drop, replicate}
-use denote.Ref.{RefT}
 use Rattle.base.specs.Checks.{Check, check, first, refusal}
 use Rattle.air.specs.Air.{firstNoBit}
 use Rattle.marks.specs.declared.Mark.{Mark}
@@ -14,7 +13,6 @@ use Rattle.marks.specs.declared.Taken.{Taken}
 use Rattle.marks.specs.declared.Verdict.{Verdict}
 use Rattle.marks.specs.declared.Verdict.the-variants.{Accepted, Refused}
 use Rattle.marks.specs.declared.Step.{Step}
-use Rattle.marks.specs.declared.Reader.{Reader}
 use Rattle.marks.specs.Marked.{windowBits, marksFrom}
 
 -- "4,294,967,295 bits"
@@ -85,10 +83,6 @@ pick n total (m ∷ ms) = record { found = true; mark = m; next = m .place + win
 unfoldable pub stepOf : State → List ℕ → ℕ → Step
 stepOf s piece at =
     cond (ltb longestRecording (s .total + length piece)) (noStep (length piece)) (pick (length piece) (s .total) (marksAt s piece at))
-
--- "A reader holds the lent piece and its position"
-abbrev pub readerAt : RefT (List ℕ) → ℕ → Reader
-readerAt piece at = record { piece = piece; at = at }
 
 -- MANY PIECES: what one adds to the marks and to the bits; what all of them add, and the state after them
 abbrev pub marksBy : Verdict → State → List ℕ → List Mark

@@ -11,7 +11,7 @@ ghost use mathlib.Core.List.{_++_};
 ghost use Prim.Native.Nat.{_+_, _-_, _≤_, _<_};
 ghost use lib.ListN.{length, drop};
 ghost use Rattle.marks.specs.Marked.{windowBits, markAt, marksFrom};
-ghost use Rattle.marks.specs.Pieces.{longestRecording, freshState, verdictOf, takenOf, indexOf, noStep, pick, stepOf, readerAt};
+ghost use Rattle.marks.specs.Pieces.{longestRecording, freshState, verdictOf, takenOf, indexOf, noStep, pick, stepOf};
 
 // The marker's bits.
 pub const MARKER_BITS: usize = 32;
@@ -115,8 +115,8 @@ fn index(total: u32, at: usize) -> usize
     at + 1
 }
 
-// The window step: the first mark whose last bit stands at or after `at` in the piece.
-fn step_at(piece: &[u8], at: usize, state: State) -> Step
+// The first mark of the piece after a state whose last bit stands at or after `at`.
+pub fn find(state: State, piece: &[u8], at: usize) -> Step
     ensures { λ r. ⌜ r ≡ stepOf state (now (piece .entry)) at ⌝ }
 {
     let n = piece.len();
@@ -199,48 +199,4 @@ pub fn fresh() -> State
         bits: [0u8; WINDOW_BITS],
         total: 0,
     }
-}
-
-// "A reader holds the lent piece and its position". The functions over it take it apart: the work is that of `step_at` and `take`.
-pub struct Reader<'a> {
-    pub piece: &'a [u8],
-    pub at: usize,
-}
-
-// A reader at the start of a piece.
-pub fn new<'a>(piece: &'a [u8]) -> Reader<'a>
-    ensures { λ r. ⌜ r ≡ readerAt (piece .entry) 0 ⌝ }
-{
-    Reader { piece, at: 0 }
-}
-
-// A reader of the same piece at another position.
-pub fn moved<'a>(reader: Reader<'a>, at: usize) -> Reader<'a>
-    ensures { λ r. ⌜ r ≡ readerAt (reader .entry .piece) at ⌝ }
-{
-    Reader {
-        piece: reader.piece,
-        at,
-    }
-}
-
-// The next mark of the piece after a state: the first whose last bit stands at or after the reader's position.
-pub fn next<'a>(reader: Reader<'a>, state: State) -> Step
-    ensures { λ r. ⌜ r ≡ stepOf state (now (reader .entry .piece)) (reader .entry .at) ⌝ }
-{
-    step_at(reader.piece, reader.at, state)
-}
-
-// The end of a piece: the state after it. Marks that were not asked for are not given later.
-pub fn close<'a>(reader: Reader<'a>, state: State) -> Taken
-    ensures { λ r. ⌜ r ≡ takenOf state (now (reader .entry .piece)) ⌝ }
-{
-    take(state, reader.piece)
-}
-
-// The same as `next`, of a piece and a position.
-pub fn find(state: State, piece: &[u8], at: usize) -> Step
-    ensures { λ r. ⌜ r ≡ stepOf state (now (piece .entry)) at ⌝ }
-{
-    next(Reader { piece, at }, state)
 }

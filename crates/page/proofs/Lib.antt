@@ -5,13 +5,4 @@ pub mod Given
 pub mod Twos
 pub mod RowBytes
 pub mod RoundTrip
-pub mod Kept
-pub mod Rounded
-pub mod Quotients
-pub mod Third
-pub mod Before
-pub mod Exact
-pub mod Spreads
-pub mod Terms
-pub mod Worked
 pub mod Printed

@@ -2,4 +2,3 @@ pub mod Bytes
 pub mod Rows
 pub mod Fields
 pub mod Payload
-pub mod Shown

@@ -2,7 +2,6 @@
 mod rows;
 mod tables;
 
-use base::Edition;
 use header::Answer;
 use page::PageAnswer;
 use page::PageVerdict;
@@ -13,7 +12,7 @@ ghost use Prim.Native.Nat.{_+_, _<_, _≤_};
 ghost use lib.ListN.{length};
 ghost use Rattle.text.specs.Text.{Put};
 ghost use Rattle.lines.specs.Tallies.{mostCounted};
-ghost use Rattle.page_lines.specs.Counting.{recordsHeard, framesAccepted, countedOf};
+ghost use Rattle.page_lines.specs.Counting.{recordsHeard, countedOf};
 ghost use Rattle.page_lines.specs.Lines.{title, headLine, pageLines, answerLines, recordLines, pagesLine, closingOf};
 ghost use Rattle.page_lines.specs.Rooms.{headRoom, pageRoom, closingRoom};
 
@@ -29,13 +28,6 @@ pub fn heard_in(counts: Counts) -> u64
     ensures { λ r. ⌜ r ≡ recordsHeard counts ⌝ }
 {
     counts.pages as u64 + counts.others as u64 + counts.refused as u64
-}
-
-// Those that were accepted as frames.
-fn accepted(counts: Counts) -> u64
-    ensures { λ r. ⌜ r ≡ framesAccepted counts ⌝ }
-{
-    counts.pages as u64 + counts.others as u64
 }
 
 // One record more, whose frame has this answer, and its payload this one.
@@ -73,10 +65,15 @@ fn put_head(out: &mut [u8], at: usize, k: u64, src_id: u8, tx: u8) -> usize
     ensures { λ r. ⌜ Put (now (out .entry)) at (headLine k «src_id» tx) (now (out .exit)) r ⌝ }
     ensures { λ r. ⌜ r ≤ at + headRoom ⌝ }
 {
-    let a = text::put_field(out, at, k, b" page ");
-    let b = lines::put_speaker(out, a, Edition::Flown, src_id);
-    let c = text::put_text(out, b, b" tx ");
-    text::put_field(out, c, tx as u64, b"\n")
+    let letter = lines::letter(src_id);
+    let radio = header::radio(src_id);
+    text::put_form(
+        out,
+        at,
+        b"% page # radio % tx %\n",
+        &[k, letter as u64, radio as u64, tx as u64],
+        b"",
+    )
 }
 
 fn put_page(out: &mut [u8], at: usize, k: u64, src_id: u8, tx: u8, rows: [i16; ROWS]) -> usize
@@ -133,16 +130,15 @@ fn put_last(out: &mut [u8], at: usize, counts: Counts) -> usize
     requires { ⌜ at + closingRoom ≤ length (now out) + 4 ⌝ }
     ensures { λ r. ⌜ Put (now (out .entry)) at (pagesLine counts) (now (out .exit)) r ⌝ }
 {
-    let a = text::put_text(out, at, b"heard ");
-    lines::put_three(
+    let pages = counts.pages as u64;
+    let accepted = pages + counts.others as u64;
+    let heard = accepted + counts.refused as u64;
+    text::put_form(
         out,
-        a,
-        heard_in(counts),
-        b" accepted ",
-        accepted(counts),
-        b" pages ",
-        counts.pages as u64,
-        b"\n",
+        at,
+        b"heard % accepted % pages %\n",
+        &[heard, accepted, pages],
+        b"",
     )
 }
 

@@ -17,8 +17,7 @@ use Rattle.air.specs.Air.{airBits, payloadLimit}
 use Rattle.header.specs.declared.Fields.{Fields}
 use Rattle.header.specs.Fields.{fieldCount, valuesOf}
 use Rattle.header.specs.Writing.{firstOver, airFor}
-use Rattle.header.proofs.Passed.{Writable}
-use Rattle.header.proofs.RoundTrip.{air-for-length}
+use Rattle.header.proofs.WrittenAir.{Writable, air-for-length}
 use Rattle.text.proofs.Sizes.{part-size}
 use Rattle.record.specs.declared.Cut.the-variants.{Record}
 use Rattle.record.specs.Records.{lengthIn, airIn, payloadIn, recordSize, cutOf}

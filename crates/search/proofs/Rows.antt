@@ -21,10 +21,10 @@ use Rattle.air.specs.Air.{airBits, firstNoBit}
 use Rattle.air.proofs.Bits.{no-bit-none}
 use Rattle.header.specs.declared.Answer.{Answer}
 use Rattle.header.specs.declared.Answer.the-variants.{Accepted, Refused}
-use Rattle.header.specs.Reading.{Signal, signal, limitAbove42, not210Long, noBit, signalChecks, readHeaderOf}
+use Rattle.header_reader.specs.Reading.{Signal, signal, limitAbove42, not210Long, noBit, signalChecks, readHeaderOf}
 use Rattle.header.specs.Rules.{usualRules}
-use Rattle.header.proofs.Beside.{read-answer}
-use Rattle.header.proofs.Given.{read-exactly}
+use Rattle.header_reader.proofs.Beside.{read-answer}
+use Rattle.header_reader.proofs.Given.{read-exactly}
 use Rattle.marks.specs.declared.Mark.{Mark}
 use Rattle.marks.specs.Marked.{markerBits, windowBits, marksOf}
 use Rattle.marks.specs.Reports.{MarkOf}

@@ -16,7 +16,7 @@ fn read_window(table: &[u16; TABLE_ROWS], edition: Edition, window: [u8; WINDOW_
     ensures { λ r. ⌜ r ≡ windowRead edition window ⌝ }
 {
     let rules = header::usual(edition);
-    header::read_header_in(table, rules, &window[MARKER_BITS..])
+    header_reader::read_header_in(table, rules, &window[MARKER_BITS..])
 }
 
 // The header answer of a mark, by a lent copy of the syndrome table: what a caller with many marks copies once.

@@ -5,7 +5,6 @@ use header::Read;
 use lines::Stop;
 use lines::Tally;
 use lines::put_accepted;
-use lines::put_counts;
 use lines::put_refused;
 ghost use Prim.Native.Nat.{_+_, _*_, _≤_};
 ghost use lib.ListN.{length};
@@ -56,9 +55,13 @@ fn put_stop(out: &mut [u8], at: usize, stop: Stop) -> usize
     match stop {
         Stop::Nowhere => at,
         Stop::Stopped(why) => {
-            let a = text::put_text(out, at, b"stopped ");
-            let b = text::put_field(out, a, why.number as u64, b" ");
-            text::put_field(out, b, why.place as u64, b"\n")
+            text::put_form(
+                out,
+                at,
+                b"stopped % %\n",
+                &[why.number as u64, why.place as u64],
+                b"",
+            )
         }
     }
 }
@@ -67,9 +70,14 @@ fn put_last(out: &mut [u8], at: usize, bits: u64, tally: Tally) -> usize
     requires { ⌜ at + lineRoom ≤ length (now out) ⌝ }
     ensures { λ r. ⌜ Put (now (out .entry)) at (lastOf bits tally) (now (out .exit)) r ⌝ }
 {
-    let a = text::put_text(out, at, b"bits ");
-    let b = text::put_field(out, a, bits, b" headers ");
-    put_counts(out, b, tally)
+    let heard = lines::total(tally);
+    text::put_form(
+        out,
+        at,
+        b"bits % headers % accepted % refused %\n",
+        &[bits, heard, tally.accepted as u64, tally.refused as u64],
+        b"",
+    )
 }
 
 // Puts the last line, after why the search stopped.

@@ -1,27 +1,27 @@
 -- One answer counted: a lane hears its own frames only, a refusal its own number, and the sum grows by one.
 -- Assumes nothing.
-use mathlib.Core.Path.{_≡_, refl, sym, _∙_}
+use mathlib.Core.Path.{_≡_, refl, _∙_}
 use mathlib.Core.Bool.{Bool, true, false, cond}
 use Prim.Native.Nat.{ℕ, _+_, _≤_, _<_}
 use native.Mathlib.Omega.{arith}
 use lib.Dec.{eqb}
-use lib.ListN.{length, getD, set, length-set}
+use lib.ListN.{length, length-set}
 use lib.Seq.{getD-set-same, getD-set-other}
 use borrow.Author.Tests.{eqb-true, eqb-false}
-use mathlib.Core.List.{List}
 use Rattle.base.specs.declared.Edition.{Edition}
 use Rattle.header.specs.declared.Answer.{Answer}
 use Rattle.header.specs.declared.Answer.the-variants.{Accepted, Refused}
+use Rattle.source.specs.Records.{addOf, replayFrom}
+use Rattle.source.specs.Lanes.{Role, recordOf, ofLane, ownIn}
+use Rattle.source.specs.Counts.{refusalCounts, slotOf}
 use Rattle.sheet.specs.declared.Sheet.{Sheet}
-use Rattle.sheet.specs.Records.{addOf}
-use Rattle.sheet.specs.Lanes.{Role, recordOf}
-use Rattle.sheet.specs.Sheets.{recordsOf, counted, refusalCounts, slotOf, laneAt, refusalsAt, acceptOf, refuseOf, countsAfter, countedOf, acceptedOf, refusedOf, heardOf, fullSheet}
-use Rattle.sheet.specs.Histories.{ofLane, ownIn, replayFrom, refusedIn}
-use Rattle.sheet.proofs.Growing.{Within, within-more, within-heard}
-use Rattle.sheet.proofs.Lanes.{heard-lane, heard-more}
-use Rattle.sheet.proofs.Offering.{HasSlot, Countable, recorded, numbered, refuses}
+use Rattle.sheet.specs.Sheets.{recordsOf, laneAt, refusalsAt, acceptOf, refuseOf, countedOf, acceptedOf, refusedOf, heardOf, fullSheet}
+use Rattle.sheet.specs.Histories.{refusedIn}
+use Rattle.source.proofs.Growing.{Within, within-more, within-heard}
+use Rattle.source.proofs.Lanes.{heard-lane, heard-more}
+use Rattle.source.proofs.Counts.{HasSlot, counts-one, slot-one}
+use Rattle.sheet.proofs.Offering.{Countable, recorded, numbered}
 use Rattle.base.proofs.OneMore.{sum-part, sum-set}
-use Rattle.base.proofs.Numbers.{place-one}
 
 -- a sheet that has taken n frames
 pub record Grown (own : Edition) (n : ℕ) (sheet : Sheet) : Type 0 where
@@ -29,14 +29,6 @@ pub record Grown (own : Edition) (n : ℕ) (sheet : Sheet) : Type 0 where
   pub refusals-long : length (sheet .refusals) ≡ refusalCounts
   pub heard-is : heardOf own sheet ≡ n
   pub within : (k : ℕ) (role : Role) → Within n (laneAt sheet k role)
-
--- a number that has a count adds one to it, and no other number has the same
-counts-one : (counts : List ℕ) (number : ℕ) → HasSlot number → countsAfter counts number ≡ set counts (slotOf number) (addOf (getD counts (slotOf number) 0) 1)
-counts-one counts number has = sym (refuses counts number (slotOf number) refl has (addOf (getD counts (slotOf number) 0) 1) refl)
-
-slot-one : (m n : ℕ) → HasSlot m → slotOf n ≡ slotOf m → m ≡ n
-unfolding slotOf
-slot-one m n has same = sym (place-one counted m n has same)
 
 module _ (own : Edition) (n : ℕ) (sheet : Sheet) (so : Grown own n sheet) where
   -- no refusal's count is above the number of frames

@@ -11,16 +11,19 @@ use Rattle.base.specs.declared.Edition.{Edition}
 use Rattle.base.specs.Checks.{refusal}
 use Rattle.header.specs.declared.Answer.the-variants.{Refused}
 use Rattle.frame.specs.Frames.{frameOf, Frame}
-use Rattle.sheet.specs.declared.Lane.{Lane}
+use Rattle.source.specs.declared.Lane.{Lane}
+use Rattle.source.specs.Lanes.{Role, as-caller, as-responder}
+use Rattle.source.specs.Counts.{slotOf}
+use Rattle.source.specs.Records.{replayFrom, replayOf}
 use Rattle.sheet.specs.declared.Sheet.{Sheet}
-use Rattle.sheet.specs.Lanes.{Role, as-caller, as-responder}
-use Rattle.sheet.specs.Sheets.{slotOf, newSheet, sourceAt, laneAt, refusalsAt, acceptedOf, refusedOf, fullSheet, sameEdition, editionOf, takenOf, offerOf}
-use Rattle.sheet.specs.Histories.{sheetOf, countAll, ofEdition, takenFrom, ownOf, replayFrom, replayOf, refusedWith, Unfilled}
+use Rattle.sheet.specs.Sheets.{newSheet, sourceAt, laneAt, refusalsAt, acceptedOf, refusedOf, fullSheet, sameEdition, editionOf, takenOf, offerOf}
+use Rattle.sheet.specs.Histories.{sheetOf, countAll, ofEdition, takenFrom, ownOf, refusedWith, Unfilled}
+use Rattle.source.proofs.Counts.{HasSlot}
 use Rattle.sheet.proofs.Counted.{refusals-le}
 use Rattle.sheet.proofs.Running.{taken-own, new-lane, new-refusals, new-grown, history-taken, history-few, history-grown}
 use Rattle.sheet.proofs.Replay.{all-own, all-refused}
-use Rattle.sheet.proofs.Offering.{HasSlot, full-refuses, other-refuses, room-takes}
-use Rattle.header.specs.Patterns.{patternsOf}
+use Rattle.sheet.proofs.Offering.{full-refuses, other-refuses, room-takes}
+use Rattle.header_reader.specs.Reading.{patternsOf}
 use Rattle.air.specs.Air.{wordCount}
 
 of-edition-append : (own : Edition) (fs gs : List Frame) → ofEdition own (fs ++ gs) ≡ ofEdition own fs ++ ofEdition own gs

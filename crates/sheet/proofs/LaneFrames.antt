@@ -9,9 +9,10 @@ use Rattle.header.specs.declared.Answer.{Answer}
 use Rattle.header.specs.declared.Answer.the-variants.{Accepted, Refused}
 use Rattle.frame.specs.Frames.{Frame, frameOf}
 use Rattle.base.specs.declared.Edition.{Edition}
-use Rattle.sheet.specs.Lanes.{Role}
+use Rattle.source.specs.Lanes.{Role, ofLane, ownIn}
+use Rattle.source.specs.Records.{Own, replayOf}
 use Rattle.sheet.specs.Sheets.{laneAt}
-use Rattle.sheet.specs.Histories.{sheetOf, takenFrom, ofLane, laneFrames, Own, ownIn, ownOf, replayOf}
+use Rattle.sheet.specs.Histories.{sheetOf, takenFrom, laneFrames, ownOf}
 use Rattle.sheet.proofs.History.{own-lane}
 
 module _ (k : ℕ) (role : Role) where

@@ -1,8 +1,4 @@
-pub mod Growing
-pub mod Lanes
-pub mod Totals
 pub mod Offering
-pub mod WideSheets
 pub mod Refusals
 pub mod Counted
 pub mod Running

@@ -4,18 +4,16 @@ use mathlib.Core.Path.{_≡_, refl, sym, ap, ap₂, _∙_}
 use mathlib.Core.Bool.{Bool, true, false, true≢false}
 use mathlib.Core.Logic.{⊎-elim}
 use mathlib.Core.List.{List}
-use Prim.Native.Nat.{ℕ, _+_, _≤_, _<_}
+use Prim.Native.Nat.{ℕ, _≤_, _<_}
 use native.Mathlib.Omega.{arith}
-use lib.Dec.{leb, eqb}
-use lib.ListN.{getD, set, replicate}
-use borrow.Author.Tests.{lt-ltb, le-ltb, le-leb, lt-leb, leb-true, leb-false, eq-eqb, ne-eqb}
+use lib.Dec.{leb}
+use lib.ListN.{set, replicate}
+use borrow.Author.Tests.{le-leb, lt-leb, leb-true, leb-false}
 use Rattle.base.specs.declared.Refusal.{Refusal}
 use Rattle.base.specs.declared.Edition.{Edition}
 use Rattle.base.specs.declared.Edition.the-variants.{Flown, Corrected}
 use Rattle.base.specs.Checks.{refusal}
 use Rattle.base.specs.Lists.{lowest}
-use Rattle.base.proofs.Lowest.{Passed, starts, goes-on, stops, ends}
-use Rattle.base.proofs.Numbers.{placed}
 use Rattle.base.proofs.Tests.{lt-or-ge}
 use Rattle.air.specs.Air.{wordCount}
 use Rattle.air.specs.Flips.{mostFlips}
@@ -25,17 +23,19 @@ use Rattle.header.specs.declared.Read.{Read}
 use Rattle.header.specs.declared.Rules.{Rules}
 use Rattle.header.specs.declared.Answer.{Answer}
 use Rattle.header.specs.declared.Answer.the-variants.{Accepted, Refused}
-use Rattle.header.specs.Patterns.{beside, patternsOf}
+use Rattle.header.specs.Patterns.{beside}
+use Rattle.header_reader.specs.Reading.{patternsOf}
 use Rattle.header.proofs.Beside.{beside-answer}
 use Rattle.frame.specs.Frames.{Frame, frameWith, frameNumbers, frameOf, frameRead}
 use Rattle.frame.proofs.Bounds.{frame-source, frame-number, frame-flips}
 use Rattle.frame.proofs.Rules.{frame-first, frame-read-is, frame-answer}
-use Rattle.sheet.specs.declared.Source.{Source}
+use Rattle.source.specs.declared.Source.{Source}
+use Rattle.source.specs.Lanes.{acceptedIn, silent, recordOf, hearOf}
+use Rattle.source.specs.Counts.{totalIn, refusalCounts, countsAfter}
+use Rattle.source.proofs.Counts.{HasSlot, have-slots, stays-17, stays-22}
 use Rattle.sheet.specs.declared.Sheet.{Sheet}
 use Rattle.sheet.specs.declared.Offered.{Offered}
-use Rattle.sheet.specs.Records.{addOf}
-use Rattle.sheet.specs.Lanes.{silent, recordOf, hearOf}
-use Rattle.sheet.specs.Sheets.{recordsOf, counted, countedAt, refusalCounts, slotOf, newSheet, sourceAt, acceptOf, countsAfter, countedOf, heardOf, fullSheet, fullOf, sameEdition, editionOf, offerAnswer, takenOf, offerOf}
+use Rattle.sheet.specs.Sheets.{recordsOf, newSheet, sourceAt, acceptOf, countedOf, acceptedOf, refusedOf, heardOf, fullSheet, fullOf, sameEdition, editionOf, offerAnswer, takenOf, offerOf}
 
 -- a sheet that was offered nothing
 pub starts-new : (own : Edition) (s : Source) → s ≡ silent → record { sources = replicate (recordsOf own) s; refusals = replicate refusalCounts 0 } ≡ newSheet own
@@ -46,40 +46,15 @@ pub accepts : (sheet : Sheet) (h : Header) (flips : ℕ) (changed : Source) → 
 unfolding acceptOf
 accepts sheet h flips changed is = rw is
 
--- THE SLOT OF A NUMBER: the numbers before k are others
-module _ (number : ℕ) where
-  abbrev isNumber : ℕ → Bool
-  isNumber k = eqb number (countedAt k)
+-- the two sums, and the test of both together
+pub sums-accepted : (own : Edition) (sheet : Sheet) (sum : ℕ) → sum ≡ acceptedIn (recordsOf own) (sheet .sources) → sum ≡ acceptedOf own sheet
+unfolding acceptedOf
+sums-accepted own sheet sum is = is
 
-  abbrev pub Looked : ℕ → Type 0
-  Looked k = Passed refusalCounts isNumber k
+pub sums-refused : (sheet : Sheet) (sum : ℕ) → sum ≡ totalIn (sheet .refusals) → sum ≡ refusedOf sheet
+unfolding refusedOf
+sums-refused sheet sum is = is
 
-  pub look-starts : Looked 0
-  look-starts = starts refusalCounts isNumber
-
-  module _ (k : ℕ) (so : Looked k) where
-    pub look-goes-on : k < refusalCounts → (number ≡ countedAt k → ⊥) → Looked (k + 1)
-    look-goes-on h other = goes-on refusalCounts isNumber k so h (ne-eqb number (countedAt k) other)
-
-    pub look-stops : k < refusalCounts → number ≡ countedAt k → k ≡ slotOf number
-    unfolding slotOf
-    look-stops h same = stops refusalCounts isNumber k so h (eq-eqb number (countedAt k) same)
-
-    pub look-ends : refusalCounts ≤ k → k ≡ slotOf number
-    unfolding slotOf
-    look-ends h = ends refusalCounts isNumber k so h
-
--- the counts with one changed, or unchanged
-module _ (counts : List ℕ) (number k : ℕ) (found : k ≡ slotOf number) where
-  pub refuses-not : refusalCounts ≤ k → counts ≡ countsAfter counts number
-  unfolding countsAfter
-  refuses-not h = rw (← found, le-ltb k refusalCounts h)
-
-  pub refuses : k < refusalCounts → (changed : ℕ) → changed ≡ addOf (getD counts k 0) 1 → set counts k changed ≡ countsAfter counts number
-  unfolding countsAfter
-  refuses h changed is = rw (← found, lt-ltb k refusalCounts h, is)
-
--- the test of the sum
 pub fills : (own : Edition) (sheet : Sheet) (sum : ℕ) → sum ≡ heardOf own sheet → leb fullSheet sum ≡ fullOf own sheet
 fills own sheet sum is = rw is
 
@@ -94,10 +69,6 @@ pub same-self : (a : Edition) → sameEdition a a ≡ true
 same-self Flown = refl
 same-self Corrected = refl
 
--- a number that has a count
-abbrev pub HasSlot : ℕ → Type 0
-HasSlot number = slotOf number < refusalCounts
-
 -- the answers that have their place on a sheet
 pub data Countable (own : Edition) : Answer → Type 0 where
   recorded : {h : Header} {flips : ℕ} → recordOf h < recordsOf own → flips ≤ mostFlips → Countable own (Accepted h flips)
@@ -105,12 +76,12 @@ pub data Countable (own : Edition) : Answer → Type 0 where
 
 -- every answer to a frame of the sheet's edition has
 pub frame-countable : (own : Edition) (f : Frame) → editionOf f ≡ own → Countable own (frameOf f)
-unfolding slotOf lowest
+unfolding lowest
 frame-countable own f same = by (frameOf f) refl
   where
     by : (a : Answer) → frameOf f ≡ a → Countable own a
     by (Accepted h flips) is = recorded {h = h} (omega (arith, rw same at (frame-source f h flips is))) (frame-flips f h flips is)
-    by (Refused why) is = numbered (placed counted frameNumbers (why .number) refl (frame-number f why is))
+    by (Refused why) is = numbered (have-slots frameNumbers (why .number) refl (frame-number f why is))
 
 -- a full sheet gives 17, one of the other edition 22, and any other the frame's answer
 module _ (own : Edition) (sheet : Sheet) (f : Frame) where
@@ -127,15 +98,6 @@ module _ (own : Edition) (sheet : Sheet) (f : Frame) where
   answers-frame room same =
       let tested : sameEdition (editionOf f) own ≡ true = rw same (same-self own) in
       rw (lt-leb fullSheet (heardOf own sheet) room, tested) (sym (frame-first f))
-
--- 17 and 22 have no count, so the sheet stays as it is
-stays-17 : (counts : List ℕ) → countsAfter counts 17 ≡ counts
-unfolding countsAfter slotOf lowest
-stays-17 counts = refl
-
-stays-22 : (counts : List ℕ) → countsAfter counts 22 ≡ counts
-unfolding countsAfter slotOf lowest
-stays-22 counts = refl
 
 module _ (own : Edition) (sheet : Sheet) (f : Frame) where
   pub full-refuses : fullSheet ≤ heardOf own sheet → offerOf own sheet f ≡ record { read = record { answer = Refused (refusal 17 fullSheet); patterns = replicate wordCount 0 }; sheet = sheet }

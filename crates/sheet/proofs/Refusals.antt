@@ -8,8 +8,8 @@ use Rattle.base.proofs.Exactly.{exactly}
 use Rattle.base.proofs.Numbers.{numbers}
 use Rattle.header.specs.declared.Answer.{Answer}
 use Rattle.header.specs.declared.Answer.the-variants.{Refused}
-use Rattle.header.specs.Reading.{repairedAnswer}
-use Rattle.header.proofs.GoesOn.{not-refused}
+use Rattle.header_reader.specs.Reading.{repairedAnswer}
+use Rattle.header_reader.proofs.GoesOn.{not-refused}
 use Rattle.frame.specs.Frames.{Frame, wholeOrder}
 use Rattle.frame.proofs.Bounds.{numberIn}
 use Rattle.sheet.specs.declared.Sheet.{Sheet}

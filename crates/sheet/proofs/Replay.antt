@@ -6,13 +6,15 @@ use Prim.Native.Nat.{ℕ, _+_, _≤_}
 use native.Mathlib.Omega.{arith}
 use lib.ListN.{length}
 use Rattle.base.specs.declared.Edition.{Edition}
-use Rattle.sheet.specs.declared.Lane.{Lane}
+use Rattle.source.specs.declared.Lane.{Lane}
+use Rattle.source.specs.Records.{nextOf, replayFrom}
+use Rattle.source.specs.Lanes.{Role, ownIn}
+use Rattle.source.specs.Counts.{slotOf}
 use Rattle.sheet.specs.declared.Sheet.{Sheet}
-use Rattle.sheet.specs.Records.{nextOf}
-use Rattle.sheet.specs.Lanes.{Role}
-use Rattle.sheet.specs.Sheets.{slotOf, laneAt, refusalsAt, countedOf, fullSheet}
-use Rattle.sheet.specs.Histories.{countAll, ownIn, ownOf, replayFrom, refusedWith}
-use Rattle.sheet.proofs.Offering.{frame-countable, HasSlot}
+use Rattle.sheet.specs.Sheets.{laneAt, refusalsAt, countedOf, fullSheet}
+use Rattle.sheet.specs.Histories.{countAll, ownOf, refusedWith}
+use Rattle.source.proofs.Counts.{HasSlot}
+use Rattle.sheet.proofs.Offering.{frame-countable}
 use Rattle.sheet.proofs.Counted.{Grown, counted-own, counted-refusals}
 use Rattle.sheet.proofs.Running.{AllOwn, one-grown}
 use Rattle.frame.specs.Frames.{Frame, frameOf}

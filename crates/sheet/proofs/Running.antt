@@ -8,12 +8,13 @@ use native.Mathlib.Nat.{zero-add}
 use native.Mathlib.Omega.{arith}
 use lib.ListN.{length, take, length-take, length-replicate}
 use Rattle.base.specs.declared.Edition.{Edition}
-use Rattle.sheet.specs.declared.Source.{Source}
+use Rattle.source.specs.declared.Source.{Source}
+use Rattle.source.specs.Records.{silentLane}
+use Rattle.source.specs.Lanes.{Role, as-caller, as-responder, silent, framesOf}
+use Rattle.source.specs.Counts.{refusalCounts}
 use Rattle.sheet.specs.declared.Sheet.{Sheet}
 use Rattle.sheet.specs.declared.Offered.{Offered}
-use Rattle.sheet.specs.Records.{silentLane}
-use Rattle.sheet.specs.Lanes.{Role, as-caller, as-responder, silent, framesOf}
-use Rattle.sheet.specs.Sheets.{recordsOf, refusalCounts, newSheet, sourceAt, laneAt, refusalsAt, countedOf, acceptedOf, refusedOf, heardOf, fullSheet, sameEdition, editionOf}
+use Rattle.sheet.specs.Sheets.{recordsOf, newSheet, sourceAt, laneAt, refusalsAt, countedOf, acceptedOf, refusedOf, heardOf, fullSheet, sameEdition, editionOf}
 use Rattle.sheet.specs.Histories.{runOf, sheetOf, countAll, ofEdition, takenFrom}
 use Rattle.sheet.proofs.Offering.{frame-countable, same-is, same-self, full-refuses, room-takes, other-stays}
 use Rattle.sheet.proofs.Counted.{Grown, counted-grown}

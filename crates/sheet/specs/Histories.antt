@@ -1,7 +1,7 @@
 -- Histories: the frames that a sheet was offered, the first first, and what is counted from them.
 -- Assumes nothing.
-use mathlib.Core.Bool.{Bool, false, cond, _&&_}
-use mathlib.Core.List.{List, [], _∷_, _++_, foldl}
+use mathlib.Core.Bool.{cond}
+use mathlib.Core.List.{List, [], _∷_, _++_}
 use Prim.Native.Nat.{ℕ, _+_, _<_}
 use lib.Dec.{eqb}
 use lib.ListN.{take}
@@ -9,11 +9,11 @@ use Rattle.base.specs.declared.Edition.{Edition}
 use Rattle.header.specs.declared.Answer.{Answer}
 use Rattle.header.specs.declared.Answer.the-variants.{Accepted, Refused}
 use Rattle.frame.specs.Frames.{Frame, frameOf}
-use Rattle.sheet.specs.declared.Lane.{Lane}
+use Rattle.source.specs.Records.{countLimit, Own}
+use Rattle.source.specs.Lanes.{Role, ofLane, ownIn}
+use Rattle.source.specs.Counts.{refusalCounts}
 use Rattle.sheet.specs.declared.Sheet.{Sheet}
-use Rattle.sheet.specs.Records.{silentLane, countLimit, nextOf}
-use Rattle.sheet.specs.Lanes.{Role, sentAs, recordOf}
-use Rattle.sheet.specs.Sheets.{refusalCounts, newSheet, laneAt, refusalsAt, countedOf, fullSheet, sameEdition, editionOf, offerOf}
+use Rattle.sheet.specs.Sheets.{newSheet, laneAt, refusalsAt, countedOf, fullSheet, sameEdition, editionOf, offerOf}
 
 -- a sheet after some frames, and the sheet grown from a new one
 abbrev pub runOf : Edition → Sheet → List Frame → Sheet
@@ -38,36 +38,15 @@ abbrev pub takenFrom : Edition → List Frame → List Frame
 takenFrom own history = take fullSheet (ofEdition own history)
 
 -- THE LANES OF RECORD k
--- whether an answer is that to an accepted frame of a lane
-abbrev pub ofLane : ℕ → Role → Answer → Bool
-ofLane k role (Accepted h flips) = eqb (recordOf h) k && sentAs role h
-ofLane k role (Refused why) = false
-
 -- "that lane's accepted frames", in their order
 abbrev pub laneFrames : ℕ → Role → List Frame → List Frame
 laneFrames k role [] = []
 laneFrames k role (f ∷ fs) = cond (ofLane k role (frameOf f)) (f ∷ laneFrames k role fs) (laneFrames k role fs)
 
--- what a lane hears of a frame: its FrCntTx and its repaired bits
-pub record Own : Type 0 where
-  pub counter : ℕ
-  pub flips : ℕ
-
--- of its own accepted frames
-abbrev pub ownIn : ℕ → Role → Answer → List Own
-ownIn k role (Accepted h flips) = cond (ofLane k role (Accepted h flips)) (record { counter = h .«fields» .«fr_cnt_tx»; flips = flips } ∷ []) []
-ownIn k role (Refused why) = []
-
+-- what the lane hears of frames
 abbrev pub ownOf : ℕ → Role → List Frame → List Own
 ownOf k role [] = []
 ownOf k role (f ∷ fs) = ownIn k role (frameOf f) ++ ownOf k role fs
-
--- a lane after such frames, and the lane that they make
-abbrev pub replayFrom : Lane → List Own → Lane
-replayFrom l own = foldl (λ r x. nextOf r (x .counter) (x .flips)) l own
-
-abbrev pub replayOf : List Own → Lane
-replayOf own = replayFrom silentLane own
 
 -- how many frames are refused with a number
 abbrev pub refusedIn : ℕ → Answer → ℕ

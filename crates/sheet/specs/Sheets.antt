@@ -1,48 +1,32 @@
 -- The pass sheet, and a frame offered to it. "A sheet belongs to one edition", which is called its own. The definitions speak of lists of
--- records of any length: a wide sheet, with 128, is one of these (`specs/Wide`).
+-- records of any length: a wide sheet, with 128, is one of these (`wide_sheet/specs/Wide`).
 -- Assumes nothing.
-use mathlib.Core.Bool.{Bool, true, false, cond, not}
-use mathlib.Core.List.{List, [], _∷_}
+use mathlib.Core.Bool.{Bool, true, false, not}
+use mathlib.Core.List.{List, _∷_}
 use Prim.Native.Nat.{ℕ, suc, _+_}
-use lib.Dec.{leb, ltb}
-use lib.ListN.{length, getD, set, replicate}
+use lib.Dec.{leb}
+use lib.ListN.{getD, replicate}
 use Rattle.base.specs.declared.Edition.{Edition}
 use Rattle.base.specs.declared.Edition.the-variants.{Flown, Corrected}
 use Rattle.base.specs.Checks.{Check, check, first, refusal}
-use Rattle.base.specs.Lists.{sumTo, placeIn}
 use Rattle.header.specs.declared.Header.{Header}
 use Rattle.header.specs.declared.Answer.{Answer}
 use Rattle.header.specs.declared.Answer.the-variants.{Accepted, Refused}
 use Rattle.header.specs.Fields.{lastSourceOf}
-use Rattle.header.specs.Reading.{repairedAnswer}
-use Rattle.header.specs.Patterns.{beside, patternsOf}
+use Rattle.header_reader.specs.Reading.{repairedAnswer, patternsOf}
+use Rattle.header.specs.Patterns.{beside}
 use Rattle.frame.specs.Frames.{Frame, frameChecks}
-use Rattle.sheet.specs.declared.Lane.{Lane}
-use Rattle.sheet.specs.declared.Source.{Source}
-use Rattle.sheet.specs.declared.Display.{Display}
+use Rattle.source.specs.declared.Lane.{Lane}
+use Rattle.source.specs.declared.Source.{Source}
+use Rattle.source.specs.declared.Display.{Display}
+use Rattle.source.specs.Lanes.{Role, laneOf, silent, sourceIn, heardIn, acceptedIn, displayIn}
+use Rattle.source.specs.Counts.{refusalCounts, countsAfter, totalIn}
 use Rattle.sheet.specs.declared.Sheet.{Sheet}
 use Rattle.sheet.specs.declared.Offered.{Offered}
-use Rattle.sheet.specs.Records.{addOf}
-use Rattle.sheet.specs.Lanes.{Role, laneOf, silent, sourceIn, heardIn, acceptedIn, displayIn}
 
 -- "Eight records, one per SrcId": as many as there are sources that are not refused; "eight records for flown, 128 for corrected"
 abbrev pub recordsOf : Edition → ℕ
 recordsOf own = suc (lastSourceOf own)
-
--- "and a count for each of the refusals 1 to 8"; 20 and 21, "The sheet counts both"; 23 and 24, "Both are counted by the sheet"
-abbrev pub counted : List ℕ
-counted = 1 ∷ 2 ∷ 3 ∷ 4 ∷ 5 ∷ 6 ∷ 7 ∷ 8 ∷ 20 ∷ 21 ∷ 23 ∷ 24 ∷ []
-
-abbrev pub refusalCounts : ℕ
-refusalCounts = length counted
-
--- the number that count k is of; 0 where there is none
-abbrev pub countedAt : ℕ → ℕ
-countedAt k = getD counted k 0
-
--- the place of a number's count; past the last where it is not counted
-unfoldable pub slotOf : ℕ → ℕ
-slotOf number = placeIn counted number
 
 -- "A new sheet is the only reset."
 abbrev pub newSheet : Edition → Sheet
@@ -62,10 +46,6 @@ refusalsAt sheet k = getD (sheet .refusals) k 0
 unfoldable pub acceptOf : Sheet → Header → ℕ → Sheet
 acceptOf sheet h flips = record { sources = heardIn (sheet .sources) h flips; refusals = sheet .refusals }
 
--- "A frame refused with 1 to 8", 20, 21, 23 or 24 "adds one to that refusal's count and touches no frame record." Any other number changes nothing.
-unfoldable pub countsAfter : List ℕ → ℕ → List ℕ
-countsAfter counts number = cond (ltb (slotOf number) refusalCounts) (set counts (slotOf number) (addOf (getD counts (slotOf number) 0) 1)) counts
-
 abbrev pub refuseOf : Sheet → ℕ → Sheet
 refuseOf sheet number = record { sources = sheet .sources; refusals = countsAfter (sheet .refusals) number }
 
@@ -78,7 +58,7 @@ unfoldable pub acceptedOf : Edition → Sheet → ℕ
 acceptedOf own sheet = acceptedIn (recordsOf own) (sheet .sources)
 
 unfoldable pub refusedOf : Sheet → ℕ
-refusedOf sheet = sumTo refusalCounts (λ k. refusalsAt sheet k)
+refusedOf sheet = totalIn (sheet .refusals)
 
 abbrev pub heardOf : Edition → Sheet → ℕ
 heardOf own sheet = acceptedOf own sheet + refusedOf sheet

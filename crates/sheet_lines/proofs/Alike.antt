@@ -7,8 +7,8 @@ use Prim.Native.Nat.{ℕ, zero, suc}
 use Rattle.base.specs.declared.Edition.{Edition}
 use Rattle.lines.specs.declared.Tally.{Tally}
 use Rattle.lines.specs.Lines.{closingOf}
+use Rattle.source.specs.Lanes.{sourceIn}
 use Rattle.sheet.specs.declared.Sheet.{Sheet}
-use Rattle.sheet.specs.Lanes.{sourceIn}
 use Rattle.sheet.specs.Sheets.{recordsOf, sourceAt}
 use Rattle.sheet_lines.specs.Lines.{joinTo, heardLine, refusalLines, sheetLines, totalsOf}
 

@@ -8,9 +8,10 @@ use lib.ListN.{length, getD}
 use Rattle.text.specs.Text.{Put}
 use Rattle.base.specs.declared.Edition.{Edition}
 use Rattle.base.specs.declared.Edition.the-variants.{Flown, Corrected}
-use Rattle.sheet.specs.declared.wide.WideSheet.{WideSheet}
-use Rattle.sheet.specs.Lanes.{silent, sourceIn}
-use Rattle.sheet.specs.Sheets.{recordsOf, countedAt, refusalCounts}
+use Rattle.source.specs.Lanes.{silent, sourceIn}
+use Rattle.source.specs.Counts.{countedAt, refusalCounts}
+use Rattle.sheet.specs.Sheets.{recordsOf}
+use Rattle.wide_sheet.specs.declared.WideSheet.{WideSheet}
 use Rattle.sheet_lines.specs.Lines.{heardLine, givenLine, sourceLines, refusalLines}
 use Rattle.sheet_lines.specs.Rooms.{sourceRoom, refusalRoom, mostRecords}
 use Rattle.sheet_lines.proofs.Joining.{Joining, join-starts, join-room, join-goes-on, join-ends, join-short}

@@ -1,52 +1,48 @@
 -- The text of a pass sheet: a line for each source that was heard, a line for each refusal that was given, and the listing's last lines.
 -- Assumes nothing.
-use mathlib.Core.Bool.{Bool, cond}
-use mathlib.Core.List.{List, [], _++_}
+use mathlib.Core.Bool.{Bool, true, false, cond}
+use mathlib.Core.List.{List, [], _∷_, _++_}
 use Prim.Native.Nat.{ℕ, zero, suc}
 use lib.Dec.{ltb}
 use lib.ListN.{getD}
 use Rattle.base.specs.declared.Edition.{Edition}
-use Rattle.text.specs.Text.{ascii, decimalOf}
+use Rattle.base.specs.declared.Edition.the-variants.{Flown, Corrected}
+use Rattle.text.specs.Text.{ascii}
+use Rattle.text.specs.Forms.{formOf}
+use Rattle.header.specs.Fields.{radioOf}
 use Rattle.lines.specs.declared.Tally.{Tally}
-use Rattle.lines.specs.Lines.{fieldOf, speakerOf, closingOf}
-use Rattle.sheet.specs.declared.Lane.{Lane}
-use Rattle.sheet.specs.declared.Source.{Source}
+use Rattle.lines.specs.Lines.{letterOf, closingOf}
+use Rattle.source.specs.declared.Lane.{Lane}
+use Rattle.source.specs.declared.Source.{Source}
 use Rattle.sheet.specs.declared.Sheet.{Sheet}
-use Rattle.sheet.specs.Lanes.{sourceIn, framesOf, repairedOf}
-use Rattle.sheet.specs.Sheets.{recordsOf, countedAt, refusalCounts}
+use Rattle.source.specs.Lanes.{sourceIn, framesOf, repairedOf}
+use Rattle.source.specs.Counts.{countedAt, refusalCounts}
+use Rattle.sheet.specs.Sheets.{recordsOf}
 
 -- the first line
 unfoldable pub totalsTitle : List ℕ
 totalsTitle = ascii "pass sheet totals\n"
 
--- a lane's last counter; `-` where the lane was never heard
-unfoldable pub counterOf : Lane → List ℕ
-counterOf lane = cond (lane .heard) (decimalOf (lane .last)) (ascii "-")
-
--- of a lane: `8 repaired 3 missed 2 repeats 0 last 14`
-unfoldable pub countsText : Lane → List ℕ
-countsText lane = (fieldOf (lane .frames) " repaired " ++ fieldOf (lane .repaired) " missed " ++ fieldOf (lane .missed) " repeats ") ++ fieldOf (lane .repeats) " last "
-
-unfoldable pub laneText : Lane → List ℕ
-laneText lane = countsText lane ++ counterOf lane
-
--- of a source: who it is, and its frames and repaired bits, those of both lanes added: `A radio 1 frames 12 repaired 7 caller frames `
-abbrev pub sumsOf : ℕ → ℕ → List ℕ
-sumsOf frames repaired = fieldOf frames " repaired " ++ fieldOf repaired " caller frames "
-
+-- a source: who it is, and its frames and repaired bits, those of both lanes added: `A radio 1 frames 12 repaired 7`, `source 97 frames 1 repaired 0`
 unfoldable pub sourceOpening : Edition → ℕ → Source → List ℕ
-sourceOpening edition srcId s = speakerOf edition srcId ++ ascii " frames " ++ sumsOf (framesOf s) (repairedOf s)
+sourceOpening Flown srcId s = formOf (ascii "# radio % frames % repaired %") (letterOf srcId ∷ radioOf srcId ∷ framesOf s ∷ repairedOf s ∷ []) []
+sourceOpening Corrected srcId s = formOf (ascii "source % frames % repaired %") (srcId ∷ framesOf s ∷ repairedOf s ∷ []) []
 
--- its lanes, the caller's first
-unfoldable pub lanesText : Source → List ℕ
-lanesText s = laneText (s .caller) ++ ascii " responder frames " ++ laneText (s .responder)
+-- one of its lanes: ` caller frames 8 repaired 3 missed 2 repeats 0 last 14`; the last counter is `-` where the lane was never heard
+abbrev pub laneForm : Bool → List ℕ
+laneForm true = ascii " & frames % repaired % missed % repeats % last %"
+laneForm false = ascii " & frames % repaired % missed % repeats % last -"
 
+unfoldable pub laneText : List ℕ → Lane → List ℕ
+laneText name lane = formOf (laneForm (lane .heard)) (lane .frames ∷ lane .repaired ∷ lane .missed ∷ lane .repeats ∷ lane .last ∷ []) name
+
+-- its line: the caller's lane first
 unfoldable pub sourceLine : Edition → ℕ → Source → List ℕ
-sourceLine edition srcId s = sourceOpening edition srcId s ++ lanesText s ++ ascii "\n"
+sourceLine edition srcId s = sourceOpening edition srcId s ++ laneText (ascii "caller") (s .caller) ++ laneText (ascii "responder") (s .responder) ++ ascii "\n"
 
 -- of a refusal's number, how many frames were refused with it: `refused 3 frames 2`
-unfoldable pub refusedFrames : ℕ → ℕ → List ℕ
-refusedFrames number n = ascii "refused " ++ fieldOf number " frames " ++ fieldOf n "\n"
+abbrev pub refusedFrames : ℕ → ℕ → List ℕ
+refusedFrames number n = formOf (ascii "refused % frames %\n") (number ∷ n ∷ []) []
 
 -- f 0, f 1, .. f (n - 1), one after the other
 unfoldable pub joinTo : ℕ → (ℕ → List ℕ) → List ℕ

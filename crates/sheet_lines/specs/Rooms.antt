@@ -1,33 +1,27 @@
--- For contracts inside: the most bytes that lines take.
+-- For contracts inside: the most bytes that lines take, worked out from their forms.
 -- Assumes nothing.
+use mathlib.Core.Bool.{true}
+use mathlib.Core.List.{List, []}
 use Prim.Native.Nat.{ℕ, _+_, _*_}
-use Rattle.text.specs.Text.{mostDigits}
-use Rattle.lines.specs.Rooms.{speakerRoom, lineRoom}
-use Rattle.sheet.specs.Sheets.{refusalCounts}
+use Rattle.text.specs.Text.{ascii}
+use Rattle.text.specs.Forms.{roomOf}
+use Rattle.lines.specs.Rooms.{lineRoom}
+use Rattle.source.specs.Counts.{refusalCounts}
+use Rattle.sheet_lines.specs.Lines.{laneForm}
 
--- the counts of a lane: four numbers and 33 others; and its last counter
-abbrev pub countsRoom : ℕ
-countsRoom = 4 * mostDigits + 33
+-- a source's line: its opening, and two lanes
+abbrev pub openingRoom : ℕ
+openingRoom = roomOf (ascii "# radio % frames % repaired %") []
 
-abbrev pub laneRoom : ℕ
-laneRoom = countsRoom + mostDigits
-
--- two sums: two numbers and 25 others
-abbrev pub sumsRoom : ℕ
-sumsRoom = 2 * mostDigits + 25
-
-abbrev pub sourceOpeningRoom : ℕ
-sourceOpeningRoom = speakerRoom + 8 + sumsRoom
-
-abbrev pub lanesRoom : ℕ
-lanesRoom = 2 * laneRoom + 18
+abbrev pub laneRoom : List ℕ → ℕ
+laneRoom name = roomOf (laneForm true) name
 
 abbrev pub sourceRoom : ℕ
-sourceRoom = sourceOpeningRoom + lanesRoom + 1
+sourceRoom = openingRoom + laneRoom (ascii "caller") + laneRoom (ascii "responder") + 1
 
--- a refusal: two numbers and 17 others
+-- a refusal's line
 abbrev pub refusalRoom : ℕ
-refusalRoom = 2 * mostDigits + 17
+refusalRoom = roomOf (ascii "refused % frames %\n") []
 
 -- the records of the widest sheet
 abbrev pub mostRecords : ℕ

@@ -1,19 +1,20 @@
 // The text of a pass sheet, put into a lent slice at a place. Each function answers the place after what it put.
 use base::Edition;
 use lines::Tally;
-use sheet::Lane;
-use sheet::REFUSAL_COUNTS;
-use sheet::Source;
-use sheet::WideSheet;
+use source::Lane;
+use source::REFUSAL_COUNTS;
+use source::Source;
+use wide_sheet::WideSheet;
 ghost use mathlib.Core.Path.{_≡_};
 ghost use Prim.Native.Nat.{_+_, _*_, _≤_};
 ghost use lib.ListN.{length};
-ghost use Rattle.text.specs.Text.{mostDigits, Put};
+ghost use Rattle.text.specs.Text.{Put};
 ghost use Rattle.lines.specs.Rooms.{lineRoom};
-ghost use Rattle.sheet.specs.Sheets.{recordsOf, refusalCounts};
-ghost use Rattle.sheet.specs.Wide.{held};
-ghost use Rattle.sheet_lines.specs.Lines.{totalsTitle, counterOf, countsText, laneText, sumsOf, sourceOpening, lanesText, sourceLine, heardLine, givenLine, sourceLines, refusalLines, sheetLines, totalsOf};
-ghost use Rattle.sheet_lines.specs.Rooms.{countsRoom, laneRoom, sumsRoom, sourceOpeningRoom, lanesRoom, sourceRoom, refusalRoom, mostRecords, sheetRoom, totalsRoom};
+ghost use Rattle.source.specs.Counts.{refusalCounts};
+ghost use Rattle.sheet.specs.Sheets.{recordsOf};
+ghost use Rattle.wide_sheet.specs.Wide.{held};
+ghost use Rattle.sheet_lines.specs.Lines.{totalsTitle, laneText, sourceOpening, sourceLine, heardLine, givenLine, sourceLines, refusalLines, sheetLines, totalsOf};
+ghost use Rattle.sheet_lines.specs.Rooms.{openingRoom, laneRoom, sourceRoom, refusalRoom, mostRecords, sheetRoom, totalsRoom};
 
 // Puts the first line.
 pub fn put_title(out: &mut [u8]) -> usize
@@ -24,91 +25,78 @@ pub fn put_title(out: &mut [u8]) -> usize
     text::put_text(out, 0, b"pass sheet totals\n")
 }
 
-// Puts a lane's last counter, or `-` where it has none.
-fn put_counter(out: &mut [u8], at: usize, lane: Lane) -> usize
-    requires { ⌜ at + mostDigits ≤ length (now out) ⌝ }
-    ensures { λ r. ⌜ Put (now (out .entry)) at (counterOf lane) (now (out .exit)) r ⌝ }
-    ensures { λ r. ⌜ r ≤ at + mostDigits ⌝ }
+// Puts a lane: its counts and its last counter, or `-` where it has none.
+fn put_lane(out: &mut [u8], at: usize, name: &[u8], lane: Lane) -> usize
+    requires { ⌜ at + laneRoom (now name) ≤ length (now out) ⌝ }
+    ensures { λ r. ⌜ Put (now (out .entry)) at (laneText (now (name .entry)) lane) (now (out .exit)) r ⌝ }
+    ensures { λ r. ⌜ r ≤ at + laneRoom (now (name .entry)) ⌝ }
 {
+    let numbers = [
+        lane.frames as u64,
+        lane.repaired as u64,
+        lane.missed as u64,
+        lane.repeats as u64,
+        lane.last as u64,
+    ];
     if lane.heard {
-        return text::put_decimal(out, at, lane.last as u64);
+        return text::put_form(
+            out,
+            at,
+            b" & frames % repaired % missed % repeats % last %",
+            &numbers,
+            name,
+        );
     }
-    text::put_text(out, at, b"-")
-}
-
-// Puts the counts of a lane.
-fn put_counts(out: &mut [u8], at: usize, lane: Lane) -> usize
-    requires { ⌜ at + countsRoom ≤ length (now out) ⌝ }
-    ensures { λ r. ⌜ Put (now (out .entry)) at (countsText lane) (now (out .exit)) r ⌝ }
-    ensures { λ r. ⌜ r ≤ at + countsRoom ⌝ }
-{
-    let a = lines::put_three(
+    text::put_form(
         out,
         at,
-        lane.frames as u64,
-        b" repaired ",
-        lane.repaired as u64,
-        b" missed ",
-        lane.missed as u64,
-        b" repeats ",
-    );
-    text::put_field(out, a, lane.repeats as u64, b" last ")
-}
-
-// Puts the counts of a lane and its last counter.
-fn put_lane(out: &mut [u8], at: usize, lane: Lane) -> usize
-    requires { ⌜ at + laneRoom ≤ length (now out) ⌝ }
-    ensures { λ r. ⌜ Put (now (out .entry)) at (laneText lane) (now (out .exit)) r ⌝ }
-    ensures { λ r. ⌜ r ≤ at + laneRoom ⌝ }
-{
-    let a = put_counts(out, at, lane);
-    put_counter(out, a, lane)
-}
-
-// Puts the frames and the repaired bits of both lanes.
-fn put_sums(out: &mut [u8], at: usize, frames: u64, repaired: u64) -> usize
-    requires { ⌜ at + sumsRoom ≤ length (now out) ⌝ }
-    ensures { λ r. ⌜ Put (now (out .entry)) at (sumsOf frames repaired) (now (out .exit)) r ⌝ }
-    ensures { λ r. ⌜ r ≤ at + sumsRoom ⌝ }
-{
-    let a = text::put_field(out, at, frames, b" repaired ");
-    text::put_field(out, a, repaired, b" caller frames ")
+        b" & frames % repaired % missed % repeats % last -",
+        &numbers,
+        name,
+    )
 }
 
 // Opens a source's line.
 fn put_opening(out: &mut [u8], at: usize, edition: Edition, src_id: u8, source: Source) -> usize
-    requires { ⌜ at + sourceOpeningRoom ≤ length (now out) ⌝ }
+    requires { ⌜ at + openingRoom ≤ length (now out) ⌝ }
     ensures { λ r. ⌜ Put (now (out .entry)) at (sourceOpening edition «src_id» source) (now (out .exit)) r ⌝ }
-    ensures { λ r. ⌜ r ≤ at + sourceOpeningRoom ⌝ }
+    ensures { λ r. ⌜ r ≤ at + openingRoom ⌝ }
 {
-    let sums = sheet::summed(source);
-    let a = lines::put_speaker(out, at, edition, src_id);
-    let b = text::put_text(out, a, b" frames ");
-    put_sums(out, b, sums.frames, sums.repaired)
+    let sums = source::summed(source);
+    match edition {
+        Edition::Flown => {
+            let letter = lines::letter(src_id);
+            let radio = header::radio(src_id);
+            text::put_form(
+                out,
+                at,
+                b"# radio % frames % repaired %",
+                &[letter as u64, radio as u64, sums.frames, sums.repaired],
+                b"",
+            )
+        }
+        Edition::Corrected => text::put_form(
+            out,
+            at,
+            b"source % frames % repaired %",
+            &[src_id as u64, sums.frames, sums.repaired],
+            b"",
+        ),
+    }
 }
 
-// Puts both lanes, the caller's first.
-fn put_lanes(out: &mut [u8], at: usize, source: Source) -> usize
-    requires { ⌜ at + lanesRoom ≤ length (now out) ⌝ }
-    ensures { λ r. ⌜ Put (now (out .entry)) at (lanesText source) (now (out .exit)) r ⌝ }
-    ensures { λ r. ⌜ r ≤ at + lanesRoom ⌝ }
-{
-    let called = source.caller;
-    let responded = source.responder;
-    let a = put_lane(out, at, called);
-    let b = text::put_text(out, a, b" responder frames ");
-    put_lane(out, b, responded)
-}
-
-// Puts a source's line.
+// Puts a source's line, the caller's lane first.
 fn put_source(out: &mut [u8], at: usize, edition: Edition, src_id: u8, source: Source) -> usize
     requires { ⌜ at + sourceRoom ≤ length (now out) ⌝ }
     ensures { λ r. ⌜ Put (now (out .entry)) at (sourceLine edition «src_id» source) (now (out .exit)) r ⌝ }
     ensures { λ r. ⌜ r ≤ at + sourceRoom ⌝ }
 {
+    let called = source.caller;
+    let responded = source.responder;
     let a = put_opening(out, at, edition, src_id, source);
-    let b = put_lanes(out, a, source);
-    text::put_text(out, b, b"\n")
+    let b = put_lane(out, a, b"caller", called);
+    let c = put_lane(out, b, b"responder", responded);
+    text::put_text(out, c, b"\n")
 }
 
 // Puts a source's line where frames of it were accepted.
@@ -117,7 +105,7 @@ fn put_heard(out: &mut [u8], at: usize, edition: Edition, src_id: u8, source: So
     ensures { λ r. ⌜ Put (now (out .entry)) at (heardLine edition «src_id» source) (now (out .exit)) r ⌝ }
     ensures { λ r. ⌜ r ≤ at + sourceRoom ⌝ }
 {
-    let sums = sheet::summed(source);
+    let sums = source::summed(source);
     if 0 < sums.frames {
         return put_source(out, at, edition, src_id, source);
     }
@@ -131,9 +119,13 @@ fn put_given(out: &mut [u8], at: usize, number: u8, frames: u32) -> usize
     ensures { λ r. ⌜ r ≤ at + refusalRoom ⌝ }
 {
     if 0 < frames {
-        let a = text::put_text(out, at, b"refused ");
-        let b = text::put_field(out, a, number as u64, b" frames ");
-        return text::put_field(out, b, frames as u64, b"\n");
+        return text::put_form(
+            out,
+            at,
+            b"refused % frames %\n",
+            &[number as u64, frames as u64],
+            b"",
+        );
     }
     at
 }
@@ -145,7 +137,7 @@ fn records_of(edition: Edition) -> usize
 {
     match edition {
         Edition::Flown => sheet::RECORDS,
-        Edition::Corrected => sheet::WIDE_RECORDS,
+        Edition::Corrected => wide_sheet::WIDE_RECORDS,
     }
 }
 
@@ -175,7 +167,7 @@ fn put_refusals(out: &mut [u8], at: usize, counts: [u32; REFUSAL_COUNTS]) -> usi
     let mut to = at;
     let mut k = 0;
     while k < REFUSAL_COUNTS {
-        let number = sheet::counted_number(k);
+        let number = source::counted_number(k);
         to = put_given(out, to, number, counts[k]);
         k += 1;
     }

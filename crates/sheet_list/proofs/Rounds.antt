@@ -3,12 +3,12 @@
 use mathlib.Core.Path.{_≡_, refl, sym, _∙_}
 use mathlib.Core.Bool.{Bool}
 use mathlib.Core.List.{List}
-use Prim.Native.Nat.{ℕ, _<_, _≤_}
+use Prim.Native.Nat.{ℕ}
 use native.Mathlib.Omega.{arith}
 use lib.ListN.{length, take}
 use Rattle.air.specs.Air.{payloadLimit}
 use Rattle.header.specs.declared.Rules.{Rules}
-use Rattle.sheet.specs.declared.wide.WideSheet.{WideSheet}
+use Rattle.wide_sheet.specs.declared.WideSheet.{WideSheet}
 use Rattle.lines.specs.declared.Tally.{Tally}
 use Rattle.record.specs.Records.{recordSize}
 use Rattle.record.specs.Walks.{overOf}

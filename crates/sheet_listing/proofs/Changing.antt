@@ -7,9 +7,9 @@ use Rattle.base.specs.declared.Refusal.{Refusal}
 use Rattle.header.specs.declared.Header.{Header}
 use Rattle.header.specs.declared.Answer.{Answer}
 use Rattle.header.specs.declared.Answer.the-variants.{Accepted, Refused}
-use Rattle.sheet.specs.declared.Source.{Source}
-use Rattle.sheet.specs.Lanes.{recordOf, hearOf}
-use Rattle.sheet.specs.Sheets.{countsAfter}
+use Rattle.source.specs.declared.Source.{Source}
+use Rattle.source.specs.Lanes.{recordOf, hearOf}
+use Rattle.source.specs.Counts.{countsAfter}
 use Rattle.sheet_listing.specs.Promises.{recordIn, heardBy, refusedBy}
 
 pub accepted-record : (a : Answer) (h : Header) (flips : ℕ) → a ≡ Accepted h flips → recordOf h ≡ recordIn a

@@ -19,10 +19,11 @@ use Rattle.frame.specs.Frames.{Frame, frameOf}
 use Rattle.record.specs.declared.Cut.{Cut}
 use Rattle.record.specs.declared.Cut.the-variants.{Record, TooLong, Short}
 use Rattle.record.specs.Records.{cutOf}
-use Rattle.sheet.specs.declared.Source.{Source}
+use Rattle.source.specs.declared.Source.{Source}
+use Rattle.source.specs.Lanes.{silent, sourceIn, recordOf, hearOf}
+use Rattle.source.specs.Counts.{countsAfter}
 use Rattle.sheet.specs.declared.Sheet.{Sheet}
-use Rattle.sheet.specs.Lanes.{silent, sourceIn, recordOf, hearOf}
-use Rattle.sheet.specs.Sheets.{recordsOf, newSheet, sourceAt, acceptOf, countsAfter, countedOf, fullSheet}
+use Rattle.sheet.specs.Sheets.{recordsOf, newSheet, sourceAt, acceptOf, countedOf, fullSheet}
 use Rattle.sheet.specs.Histories.{sheetOf, countAll}
 use Rattle.sheet.proofs.Offering.{Countable, recorded, frame-countable}
 use Rattle.sheet.proofs.Running.{AllOwn, all-of-edition, taken-own, history-taken}

@@ -13,7 +13,7 @@ use Rattle.walk.proofs.Keeping as keeping
 use Rattle.record.specs.Records.{recordSize}
 use Rattle.record.specs.Walks.{endedAs, overOf}
 use Rattle.record.proofs.Walking.{waits-short, not-over}
-use Rattle.sheet.specs.declared.wide.WideSheet.{WideSheet}
+use Rattle.wide_sheet.specs.declared.WideSheet.{WideSheet}
 use Rattle.lines.specs.declared.Tally.{Tally}
 use Rattle.sheet_listing.specs.declared.Counted.{Counted}
 use Rattle.sheet_listing.specs.Pieces.{totalsFull, totalsIn, sheetWalk}

@@ -26,19 +26,19 @@ use Rattle.record.specs.declared.Ending.the-variants.{Waits, Full, TooLong as L
 use Rattle.record.specs.Records.{recordSize, cutOf}
 use Rattle.record.specs.Walks.{endedAs}
 use Rattle.record.proofs.Scanning as records
-use Rattle.sheet.specs.declared.Source.{Source}
+use Rattle.source.specs.declared.Source.{Source}
+use Rattle.source.specs.Lanes.{silent, recordOf}
 use Rattle.sheet.specs.declared.Sheet.{Sheet}
-use Rattle.sheet.specs.declared.wide.WideSheet.{WideSheet}
-use Rattle.sheet.specs.Lanes.{silent, recordOf}
 use Rattle.sheet.specs.Sheets.{acceptOf, countedOf, fullSheet}
-use Rattle.sheet.specs.Wide.{held}
+use Rattle.wide_sheet.specs.declared.WideSheet.{WideSheet}
+use Rattle.wide_sheet.specs.Wide.{held}
 use Rattle.lines.specs.declared.Tally.{Tally}
 use Rattle.lines.specs.Tallies.{totalOf}
 use Rattle.frame.specs.Recorded.{frameIn}
 use Rattle.listing.proofs.Scanning.{is-full, has-place}
 use Rattle.sheet_listing.specs.declared.Taken.{Taken}
 use Rattle.sheet_listing.specs.declared.Counted.{Counted}
-use Rattle.sheet_listing.specs.Pieces.{Totals, totalsFull, totalsIn, sheetWalk}
+use Rattle.sheet_listing.specs.Pieces.{totalsFull, totalsIn, sheetWalk}
 use Rattle.sheet_listing.specs.Promises.{recordIn, heardBy, refusedBy, Takes, heldTotals, Walked}
 use Rattle.sheet_listing.proofs.TakenFrames.{sheet-sound}
 

@@ -12,11 +12,11 @@ use Rattle.frame.specs.Frames.{frameOf}
 use Rattle.walk.specs.Walks.{walkOf}
 use Rattle.walk.specs.Moves.{Moved}
 use Rattle.record.specs.Walks.{endedAs}
-use Rattle.sheet.specs.declared.Source.{Source}
-use Rattle.sheet.specs.declared.wide.WideSheet.{WideSheet}
-use Rattle.sheet.specs.Lanes.{recordOf, hearOf}
-use Rattle.sheet.specs.Sheets.{countsAfter}
-use Rattle.sheet.specs.Wide.{held}
+use Rattle.source.specs.declared.Source.{Source}
+use Rattle.source.specs.Lanes.{recordOf, hearOf}
+use Rattle.source.specs.Counts.{countsAfter}
+use Rattle.wide_sheet.specs.declared.WideSheet.{WideSheet}
+use Rattle.wide_sheet.specs.Wide.{held}
 use Rattle.lines.specs.declared.Tally.{Tally}
 use Rattle.lines.specs.Tallies.{nothingHeard}
 use Rattle.frame.specs.Recorded.{frameIn}

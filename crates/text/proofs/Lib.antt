@@ -6,3 +6,5 @@ pub mod Counting
 pub mod Spelling
 pub mod Fixed
 pub mod Sizes
+pub mod Forming
+pub mod FormParts

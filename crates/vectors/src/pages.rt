@@ -1,14 +1,14 @@
 // Power pages, read and written, and shown values.
-use crate::layout;
-use crate::layout::Record;
-use crate::layout::Reply;
-use crate::numbers;
 use base::Written;
+use marshalling::format;
+use marshalling::format::Record;
+use marshalling::format::Reply;
+use marshalling::numbers;
 use page::PageFields;
 use page::PageHeader;
 use page::PageVerdict;
-use page::Scaling;
-use page::ShownAnswer;
+use scaling::Scaling;
+use scaling::ShownAnswer;
 ghost use mathlib.Core.Path.{_≡_};
 ghost use Prim.Native.Nat.{_+_, _≤_};
 ghost use lib.ListN.{length};
@@ -18,9 +18,9 @@ const HELD: u8 = 0xA7;
 
 // Puts the payload header but for the time tag, and answers the place after it.
 fn put_fields(reply: &mut Reply, f: PageFields) -> usize
-    ensures { λ r. do ⌜ r ≡ (← ⟦layout::VALUES⟧ .entry) + 17 ⌝ }
+    ensures { λ r. do ⌜ r ≡ (← ⟦format::VALUES⟧ .entry) + 17 ⌝ }
 {
-    let next = numbers::put_four(reply, layout::VALUES, f.fsync);
+    let next = numbers::put_four(reply, format::VALUES, f.fsync);
     let next = numbers::put_two(reply, next, f.crc14);
     let next = numbers::put_byte(reply, next, f.fcid_major);
     let next = numbers::put_two(reply, next, f.fcid_sub);
@@ -36,15 +36,23 @@ fn put_fields(reply: &mut Reply, f: PageFields) -> usize
     numbers::put_two(reply, next, f.frame_length)
 }
 
+// The bits of a number in two's complement.
+fn row_bits(x: i16) -> u16 {
+    if x < 0 {
+        return 65535 - ((!x) as u16);
+    }
+    x as u16
+}
+
 // Puts the rows, and answers the place after them.
 fn put_rows(reply: &mut Reply, at: usize, rows: [i16; 17]) -> usize
-    requires { do ⌜ at + 34 ≤ (← ⟦layout::REPLY_BYTES⟧) ⌝ }
+    requires { do ⌜ at + 34 ≤ (← ⟦format::REPLY_BYTES⟧) ⌝ }
     ensures { λ r. ⌜ r ≡ at + 34 ⌝ }
 {
     let mut next = at;
     let mut k = 0;
     while k < 17 {
-        next = numbers::put_two(reply, next, numbers::bits_of(rows[k]));
+        next = numbers::put_two(reply, next, row_bits(rows[k]));
         k += 1;
     }
     next
@@ -60,7 +68,7 @@ fn put_page(reply: &mut Reply, header: PageHeader, rows: [i16; 17]) {
 }
 
 pub fn page_reply(record: &Record, reply: &mut Reply) {
-    let answer = page::read_page(numbers::sized(record, 0, layout::PAGE_ROOM));
+    let answer = page::read_page(numbers::sized(record, 0, format::PAGE_ROOM));
     let rows = answer.rows;
     let verdict = answer.verdict;
     match verdict {
@@ -69,11 +77,22 @@ pub fn page_reply(record: &Record, reply: &mut Reply) {
     }
 }
 
+// Sixteen bits in two's complement.
+fn signed_at(bytes: &[u8], at: usize) -> i16
+    requires { ⌜ at + 2 ≤ length (now bytes) ⌝ }
+{
+    let bits = numbers::two_at(bytes, at) as u16;
+    if bits < 32768 {
+        return bits as i16;
+    }
+    !((65535 - bits) as i16)
+}
+
 fn rows_of(record: &Record) -> [i16; 17] {
     let mut rows = [0i16; 17];
     let mut r = 0;
     while r < 17 {
-        rows[r] = numbers::signed_at(record, 2 * r);
+        rows[r] = signed_at(record, 2 * r);
         r += 1;
     }
     rows
@@ -89,8 +108,8 @@ fn write_at(record: &Record, reply: &mut [u8], at: usize, room: usize) -> Writte
 }
 
 pub fn rows_reply(record: &Record, reply: &mut Reply) {
-    let room = numbers::length_at(record, layout::ROWS_ROOM, layout::USER_ROOM);
-    let next = numbers::put_two(reply, layout::VALUES, room as u16);
+    let room = numbers::length_at(record, format::ROWS_ROOM, format::USER_ROOM);
+    let next = numbers::put_two(reply, format::VALUES, room as u16);
     let answer = write_at(record, reply, next, room);
     numbers::put_written(reply, answer);
 }
@@ -117,14 +136,14 @@ fn bits_of(value: f64) -> u64 {
 
 pub fn shown_reply(record: &Record, reply: &mut Reply) {
     let scaling = Scaling {
-        c0: float_of(numbers::eight_at(record, layout::C0)),
-        c1: float_of(numbers::eight_at(record, layout::C1)),
-        c2: float_of(numbers::eight_at(record, layout::C2)),
-        spread: numbers::two_at(record, layout::SPREAD) as u32,
+        c0: float_of(numbers::eight_at(record, format::C0)),
+        c1: float_of(numbers::eight_at(record, format::C1)),
+        c2: float_of(numbers::eight_at(record, format::C2)),
+        spread: numbers::two_at(record, format::SPREAD) as u32,
     };
-    match page::shown(scaling, numbers::signed_at(record, layout::RAW)) {
+    match scaling::shown(scaling, signed_at(record, format::RAW)) {
         ShownAnswer::Value(value) => {
-            numbers::put_eight(reply, layout::VALUES, bits_of(value));
+            numbers::put_eight(reply, format::VALUES, bits_of(value));
         }
         ShownAnswer::Refused(why) => numbers::put_refusal(reply, why),
     }

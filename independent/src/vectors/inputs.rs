@@ -49,7 +49,7 @@ pub(super) fn mixture(kind: Kind, seed: u64) -> Vec<Vec<u8>> {
         Kind::Calls => (0..=u8::MAX).map(|satellite| vec![satellite]).collect(),
         Kind::Beesat => beesat::frame_inputs(rng),
         Kind::Fields => beesat::field_inputs(rng),
-        Kind::Stored | Kind::StoredBeesat => stored::inputs(kind, seed),
+        Kind::Stored | Kind::StoredSheets | Kind::StoredBeesat => stored::inputs(kind, seed),
     }
 }
 

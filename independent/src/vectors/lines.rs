@@ -33,7 +33,7 @@ pub(super) fn line(kind: Kind, reply: &[u8]) -> String {
         Kind::Calls => digits_of(reply.take(CALL_SIGN_BITS), |bit| bit.to_string()),
         Kind::Beesat => beesat::frame_line(&mut reply),
         Kind::Fields => beesat::field_line(&mut reply),
-        Kind::Stored | Kind::StoredBeesat => {
+        Kind::Stored | Kind::StoredSheets | Kind::StoredBeesat => {
             unreachable!("a stored record has the kind of what it holds")
         }
     }

@@ -43,11 +43,12 @@ pub enum Kind {
     Beesat,
     Fields,
     Stored,
+    StoredSheets,
     StoredBeesat,
 }
 
 /// All kinds with their names, in the order that numbers them in the stored streams.
-pub const KINDS: [(&str, Kind); 19] = [
+pub const KINDS: [(&str, Kind); 20] = [
     ("words", Kind::Words),
     ("encode", Kind::Encode),
     ("crc13", Kind::Crc13),
@@ -66,6 +67,7 @@ pub const KINDS: [(&str, Kind); 19] = [
     ("beesat", Kind::Beesat),
     ("fields", Kind::Fields),
     ("stored", Kind::Stored),
+    ("stored-sheets", Kind::StoredSheets),
     ("stored-beesat", Kind::StoredBeesat),
 ];
 
@@ -109,7 +111,7 @@ impl Kind {
 
     /// Whether a record of this kind is one of another kind, behind the byte of that.
     fn is_stored(self) -> bool {
-        matches!(self, Kind::Stored | Kind::StoredBeesat)
+        matches!(self, Kind::Stored | Kind::StoredSheets | Kind::StoredBeesat)
     }
 
     /// The size of a reply of this kind, which is not stored.

@@ -87,7 +87,7 @@ pub(super) fn reply(kind: Kind, input: &[u8]) -> Vec<u8> {
         Kind::Calls => out.extend(call_sign_bits(input.u8().into())),
         Kind::Beesat => beesat::frame_reply(&mut input, &mut out),
         Kind::Fields => beesat::field_reply(&mut input, &mut out),
-        Kind::Stored | Kind::StoredBeesat => {
+        Kind::Stored | Kind::StoredSheets | Kind::StoredBeesat => {
             unreachable!("a stored record has the kind of what it holds")
         }
     }

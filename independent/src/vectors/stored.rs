@@ -1,8 +1,9 @@
-//! The inputs of `stored` and of `stored-beesat`: a part of the inputs of every other kind.
+//! The inputs of `stored`, `stored-sheets` and `stored-beesat`: a part of the inputs of every other kind.
 //!
 //! One input in so many is taken, and besides those at a limit of their kind, those that are the first
 //! with their refusal and place, and all telling ones. So every refusal of the other streams is there,
-//! and the whole is small enough to be kept in a repository. BEESAT-1 has a stream of its own.
+//! and the whole is small enough to be kept in a repository. What reads headers and frames has a stream
+//! of its own, sheets among it, and so has BEESAT-1.
 
 use std::collections::{BTreeMap, BTreeSet};
 
@@ -46,7 +47,7 @@ const fn one_of(every: usize, places: usize) -> Share {
     Share { every, places }
 }
 
-/// The inputs of one of the two, each behind the byte of its kind.
+/// The inputs of one of the three, each behind the byte of its kind.
 pub(super) fn inputs(stream: Kind, seed: u64) -> Vec<Vec<u8>> {
     let mut stored = Vec::new();
     for (number, (kind, share)) in (0..).zip(SHARES) {
@@ -65,6 +66,8 @@ pub(super) fn inputs(stream: Kind, seed: u64) -> Vec<Vec<u8>> {
 /// The stream that has the stored inputs of a kind.
 fn stream_of(kind: Kind) -> Kind {
     match kind {
+        Kind::Headers | Kind::Frames | Kind::Signs => Kind::StoredSheets,
+        Kind::Sheets | Kind::Sources | Kind::Wides => Kind::StoredSheets,
         Kind::Beesat | Kind::Fields => Kind::StoredBeesat,
         _ => Kind::Stored,
     }

@@ -13,33 +13,9 @@ Inv-loop out₀ words n₀ out n = Filled (airBit words) airBits out₀ n out
 abbrev μ-loop : tie.MeasureT-loop
 μ-loop out₀ words n₀ out n = airBits - n
 
-loop-holds : tie.Need-loop-holds Inv-loop μ-loop
-loop-holds c = search (needs, fill-starts)
-
-mul-bit : tie.Need-mul-bit Inv-loop μ-loop
-mul-bit c = search needs
-
-array-read-bit : tie.Need-array-read-bit Inv-loop μ-loop
-array-read-bit c = search needs
-
-bit-requires : tie.Need-bit-requires Inv-loop μ-loop
-bit-requires c κs = search needs
-
-slice-write-out : tie.Need-slice-write-out Inv-loop μ-loop
-slice-write-out c = search needs
-
-add-n : tie.Need-add-n Inv-loop μ-loop
-add-n c = search needs
-
-loop-less : tie.Need-loop-less Inv-loop μ-loop
-loop-less c = search needs
-
 loop-again : tie.Need-loop-again Inv-loop μ-loop
 unfolding airBit
 loop-again c = search (needs, fill-goes-on)
-
-same-length : tie.Need-same-length Inv-loop μ-loop
-same-length c = search needs
 
 returns : tie.Need-returns Inv-loop μ-loop
 unfolding airOf
@@ -51,13 +27,13 @@ send-spec =
     (tie.spec
     Inv-loop
     μ-loop
-    loop-holds
-    mul-bit
-    array-read-bit
-    bit-requires
-    slice-write-out
-    add-n
-    loop-less
+    (λ c. search (needs, fill-starts))
+    (λ c. search needs)
+    (λ c. search needs)
+    (λ c κs. search needs)
+    (λ c. search needs)
+    (λ c. search needs)
+    (λ c. search needs)
     loop-again
-    same-length
+    (λ c. search needs)
     returns)

@@ -5,15 +5,14 @@ use Rattle.crc.specs.Crc5.{countedFlown}
 use Rattle.crc.proofs.counted_flown.Statement.{statement}
 use Rattle.crc.proofs.counted_flown.Tie as tie
 
-mul-result : tie.Need-mul-result
-mul-result c = search needs
-
-add-result : tie.Need-add-result
-add-result c = search needs
-
 returns : tie.Need-returns
 unfolding countedFlown
 returns c = search needs
 
 pub counted-flown-spec : {M : Type 1} → statement M
-counted-flown-spec = tie.close (tie.spec mul-result add-result returns)
+counted-flown-spec =
+    tie.close
+    (tie.spec
+    (λ c. search needs)
+    (λ c. search needs)
+    returns)

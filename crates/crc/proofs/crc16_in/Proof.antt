@@ -15,24 +15,6 @@ Inv-loop steps bytes crc₀ i₀ crc i = Upward (crcByte 16 poly16) start16 byte
 abbrev μ-loop : tie.MeasureT-loop
 μ-loop steps bytes crc₀ i₀ crc i = length bytes - i
 
-loop-holds : tie.Need-loop-holds Inv-loop μ-loop
-loop-holds c = search (needs, up-starts)
-
-shared-slice-read-byte16-in : tie.Need-shared-slice-read-byte16-in Inv-loop μ-loop
-shared-slice-read-byte16-in c = search needs
-
-byte16-in-requires : tie.Need-byte16-in-requires Inv-loop μ-loop
-byte16-in-requires c κs = search needs
-
-add-i : tie.Need-add-i Inv-loop μ-loop
-add-i c = search needs
-
-loop-less : tie.Need-loop-less Inv-loop μ-loop
-loop-less c = search needs
-
-loop-again : tie.Need-loop-again Inv-loop μ-loop
-loop-again c = search (needs, up-goes-on)
-
 returns : tie.Need-returns Inv-loop μ-loop
 unfolding crc16Of
 returns c = search (needs, up-bytes)
@@ -43,10 +25,10 @@ crc16-in-spec =
     (tie.spec
     Inv-loop
     μ-loop
-    loop-holds
-    shared-slice-read-byte16-in
-    byte16-in-requires
-    add-i
-    loop-less
-    loop-again
+    (λ c. search (needs, up-starts))
+    (λ c. search needs)
+    (λ c κs. search needs)
+    (λ c. search needs)
+    (λ c. search needs)
+    (λ c. search (needs, up-goes-on))
     returns)

@@ -2,36 +2,38 @@
 -- that the proof knows of the two is that they meet their contracts.
 -- The slice and the state are Copy: what they own is had twice, once for the exit, and once for the callees.
 -- Assumes nothing.
-use Rattle.marks.proofs.Walk.{_≡_, refl, ℕ, List, [], _∷_, Holds, URA, named, Val, WT, hasTy, SProp, ent, sep, emp, via, fst∗, snd∗, exE, id⊢, Lft}
-use Rattle.marks.proofs.Walk.{Share, Fml, ftrue, flft, Memory, Routine, Heap, Calls, Loops, WpFn, Tables, Atoms, sem, Fun, fact, givenOf, tables, tablesOf, Given, ‵, raw}
-use Rattle.marks.proofs.Walk.{_⊛_, ⋆, some, later, _$_, _∵_, !, qed, by, move, drop, use1, use2, split, join, pick, fsplit, fjoin, suffices, frame, await, done}
-use Rattle.marks.proofs.Walk.{look, init, forget, stop, from, load, and-then, no-more, land, returns, enter, alloc1, alloc0, params1, pass1, pass0, free1}
-use Rattle.marks.proofs.Walk.{free0, FmC, fmOf, WpFn-mono, owns, Is, shows, u8, RefT, now, plain}
-use Rattle.marks.proofs.Walk.{ShrSlice, slice-vals, shr-slice-tells, shr-slice-lawful, shr-slice-copy, peeks, heard, nothing, Contract, Triple, calls-at}
-use Rattle.marks.proofs.Walk.{Vals, onEntry, Meets, tripleOf, entered, cited, says, Stays, stay-none, stay-none-slice, walkOf, goes-none, goes-none-slice, Walks, ends-at, walked}
-use Rattle.marks.proofs.Walk.{walk-meets, yes, ensured, lasts}
+use Rattle.mark_reader.proofs.Walk.{_≡_, refl, ℕ, List, [], _∷_, Holds, URA, named, Val, WT, hasTy, SProp, ent, emp, via, fst∗, snd∗, exE, id⊢, Lft}
+use Rattle.mark_reader.proofs.Walk.{Share, ftrue, flft, Memory, Routine, Heap, Calls, Loops, WpFn, Tables, Atoms, sem, Fun, fact, givenOf, tables, tablesOf, Given, ‵, raw}
+use Rattle.mark_reader.proofs.Walk.{_⊛_, ⋆, some, later, _$_, _∵_, !, qed, by, move, use1, use2, split, join, pick, fjoin, suffices, frame, await, done}
+use Rattle.mark_reader.proofs.Walk.{look, init, forget, stop, from, load, and-then, no-more, land, returns, enter, alloc1, alloc0, params1, pass1, pass0, free1}
+use Rattle.mark_reader.proofs.Walk.{free0, FmC, fmOf, WpFn-mono, owns, Is, shows, u8, RefT, now, plain}
+use Rattle.mark_reader.proofs.Walk.{ShrSlice, slice-vals, shr-slice-tells, shr-slice-lawful, peeks, heard, nothing, Contract, Triple, calls-at}
+use Rattle.mark_reader.proofs.Walk.{Vals, onEntry, Meets, tripleOf, entered, cited, says, Stays, stay-none, stay-none-slice, walkOf, goes-none, goes-none-slice, ends-at, walked}
+use Rattle.mark_reader.proofs.Walk.{walk-meets, yes, ensured, lasts}
 use mathlib.Core.Path.{ap, _∙_}
 use mir.Syntax.{erased}
 use denote.Struct.Laws as LL
-use Rattle.marks.specs.Pieces.{readerAt, takenOf}
-use Rattle.marks.specs.declared.Reader.{Reader}
+use Rattle.mark_reader.specs.Readers.{readerAt}
+use Rattle.marks.specs.Pieces.{takenOf}
+use Rattle.mark_reader.specs.declared.Reader.{Reader}
 use Rattle.marks.specs.declared.State.{State}
 use Rattle.marks.specs.declared.Taken.{Taken}
-use Rattle.marks.proofs.Reader as T
-use Rattle.marks.proofs.Reader.Laws as T′
+use Rattle.mark_reader.proofs.Reader as T
+use Rattle.mark_reader.proofs.Reader.Laws as T′
 use Rattle.marks.proofs.State as K
 use Rattle.marks.proofs.State.Laws as K′
 use Rattle.marks.proofs.Taken as S
 use Rattle.marks.proofs.Taken.Laws as S′
-use Rattle.marks.proofs.new as new
-use Rattle.marks.proofs.new.Symbol as new-def
-use Rattle.marks.proofs.new.Symbol.{name as #marks·new}
-use Rattle.marks.proofs.new.Met as new-thm
-use Rattle.cuts.proofs.MakesReader.{B, New, pieceVal, OwnPiece, to-new, asked-new, said-new}
-use Rattle.marks.proofs.close as close
-use Rattle.marks.proofs.close.Symbol as close-def
-use Rattle.marks.proofs.close.Symbol.{name as #marks·close}
-use Rattle.marks.proofs.close.Met as close-thm
+use Rattle.mark_reader.proofs.new as new
+use Rattle.mark_reader.proofs.new.Symbol as new-def
+use Rattle.mark_reader.proofs.new.Symbol.{name as #mark_reader·new}
+use Rattle.mark_reader.proofs.new.Met as new-thm
+use Rattle.mark_reader.proofs.Held.{B, pieceVal, stateVal, OwnPiece, OwnState}
+use Rattle.cuts.proofs.MakesReader.{New, to-new, said-new, apart}
+use Rattle.mark_reader.proofs.close as close
+use Rattle.mark_reader.proofs.close.Symbol as close-def
+use Rattle.mark_reader.proofs.close.Symbol.{name as #mark_reader·close}
+use Rattle.mark_reader.proofs.close.Met as close-thm
 use Rattle.cuts.proofs.closed.Key.{name as #cuts·closed}
 use Rattle.cuts.proofs.closed as closed
 use Rattle.cuts.proofs.closed.Statement as stated
@@ -46,16 +48,9 @@ module _ {M : Type 1} (𝓤 : URA M) (H : Heap 𝓤) (A : Atoms 𝓤) (mem : Mem
   Close = tripleOf 𝓤 H A close.signature (close.spec 𝓤 H A mem run)
 
 module _ {M : Type 1} (𝓤 : URA M) (H : Heap 𝓤) (A : Atoms 𝓤) (W : Given 𝓤 H A) (mem : Memory → SProp 𝓤) (run : Routine → Fun 𝓤) (κ : Lft) (q : Share) (st : State) (s : RefT (List ℕ)) where
-  -- the machine values of the state and of the piece
-  abbrev machK : Val
-  machK = LL.val K.the-type K′.the-laws st
-
-  abbrev v : Val
-  v = pieceVal s
-
   -- what `closed` is passed
   abbrev at : Vals closed.signature (κ, tt)
-  at = (machK ∷ [], (v ∷ [], tt))
+  at = (stateVal st ∷ [], (pieceVal s ∷ [], tt))
 
   abbrev answer : Taken
   answer = takenOf st (now s)
@@ -63,46 +58,31 @@ module _ {M : Type 1} (𝓤 : URA M) (H : Heap 𝓤) (A : Atoms 𝓤) (W : Given
   abbrev Post : Val → SProp 𝓤
   Post = walkOf 𝓤 H A closed.ended stayed (closed.clauses 𝓤 H A mem run) .post (((κ, tt), (q, tt), tt, (st, (s, tt)), at), tt)
 
-  abbrev OwnK : Fml
-  OwnK = K.the-row .own st (machK ∷ [])
-
-  abbrev OwnS : Fml
-  OwnS = OwnPiece κ s
-
   -- what the callees are passed
   abbrev to-close : Reader → Val → Close 𝓤 H A mem run .Ghost
-  to-close r u = (((κ, tt), (q, tt), tt, (r, (st, tt)), (u ∷ [], (machK ∷ [], tt))), tt)
+  to-close r u = (((κ, tt), (q, tt), tt, (r, (st, tt)), (u ∷ [], (stateVal st ∷ [], tt))), tt)
 
-  asked-close : (r : Reader) (u : Val) → ent 𝓤 (onEntry 𝓤 H A close.signature (κ, tt) (q, tt) (r, (st, tt)) (u ∷ [], (machK ∷ [], tt))) (Close 𝓤 H A mem run .pre (to-close r u))
-  asked-close r u = qed W ((‵ (flft κ q) ⊛ ‵ ftrue) ∷ ‵ (owns (B (κ, tt) ∷ K.the-row ∷ []) (r, (st, tt)) (u ∷ [], (machK ∷ [], tt))) ∷ []) ∵ join ! $ frame ! $ done !
-
-  -- what the parameters own gives what `new` asks, and what is kept for `close` and for the exit
-  apart : ent 𝓤 (onEntry 𝓤 H A closed.signature (κ, tt) (q, tt) (st, (s, tt)) at) (sep 𝓤 (New 𝓤 H A mem run .pre (to-new 𝓤 H A mem run κ q s)) (sep 𝓤 (sem 𝓤 H A OwnS) (sep 𝓤 (sem 𝓤 H A OwnK) (sem 𝓤 H A OwnK))))
-  apart =
-      qed W ((‵ (flft κ q) ⊛ ‵ ftrue) ∷ ‵ (owns (K.the-row ∷ ShrSlice (named 0) κ u8 ∷ []) (st, (s, tt)) at) ∷ []) ∵
-      move ! (1 ∷ []) $ fsplit ! $ use1 W (‵ OwnK ⊛ ‵ OwnK) (LL.copy K.the-type K′.the-copy 𝓤 H A W .twice st (machK ∷ [])) $ split ! $
-      move ! (2 ∷ []) $ fsplit ! $ move ! (1 ∷ []) $ drop ! $ use1 W (‵ OwnS ⊛ ‵ OwnS) (shr-slice-copy 𝓤 H A W (named 0) κ u8 .twice s (v ∷ [])) $ split ! $
-      -- [what the piece owns, twice; what the state owns, twice; the token]
-      nothing ! $ move ! (1 ∷ 0 ∷ []) $ fjoin ! $ move ! (4 ∷ 0 ∷ []) $ use2 W (raw (New 𝓤 H A mem run .pre (to-new 𝓤 H A mem run κ q s))) (asked-new 𝓤 H A mem run κ q s W) $ frame ! $ frame ! $ frame ! $ done !
+  asked-close : (r : Reader) (u : Val) → ent 𝓤 (onEntry 𝓤 H A close.signature (κ, tt) (q, tt) (r, (st, tt)) (u ∷ [], (stateVal st ∷ [], tt))) (Close 𝓤 H A mem run .pre (to-close r u))
+  asked-close r u = qed W ((‵ (flft κ q) ⊛ ‵ ftrue) ∷ ‵ (owns (B (κ, tt) ∷ K.the-row ∷ []) (r, (st, tt)) (u ∷ [], (stateVal st ∷ [], tt))) ∷ []) ∵ join ! $ frame ! $ done !
 
   -- of a callee's `ensured`, the clause alone: it has no `&mut`, so what is said of last values is dropped
   said-close : (r : Reader) (t : Taken) → ent 𝓤 (ensured 𝓤 H A close.ended (close.clauses 𝓤 H A mem run) (κ, tt) (r, (st, tt)) tt t) (fact 𝓤 (t ≡ takenOf st (now (r .piece))))
   said-close r t = exE 𝓤 _ (λ ws. snd∗ 𝓤 (sem 𝓤 H A (lasts close.ended (κ, tt) (r, (st, tt)) ws)) (fact 𝓤 (t ≡ takenOf st (now (r .piece)))))
 
-  exits : (t : Taken) (u : Val) → t ≡ answer → ent 𝓤 (⋆ 𝓤 H A (‵ (S.the-row .own t (u ∷ [])) ∷ (‵ (flft κ q) ⊛ ‵ ftrue) ∷ ‵ OwnK ∷ ‵ OwnS ∷ [])) (Post u)
+  exits : (t : Taken) (u : Val) → t ≡ answer → ent 𝓤 (⋆ 𝓤 H A (‵ (S.the-row .own t (u ∷ [])) ∷ (‵ (flft κ q) ⊛ ‵ ftrue) ∷ ‵ (OwnState st) ∷ ‵ (OwnPiece κ s) ∷ [])) (Post u)
   exits t u e =
-      qed W (‵ (S.the-row .own t (u ∷ [])) ∷ (‵ (flft κ q) ⊛ ‵ ftrue) ∷ ‵ OwnK ∷ ‵ OwnS ∷ []) ∵
+      qed W (‵ (S.the-row .own t (u ∷ [])) ∷ (‵ (flft κ q) ⊛ ‵ ftrue) ∷ ‵ (OwnState st) ∷ ‵ (OwnPiece κ s) ∷ []) ∵
       suffices ! _ (ends-at 𝓤 H A closed.ended stayed (closed.clauses 𝓤 H A mem run) W (((κ, tt), (q, tt), tt, (st, (s, tt)), at), tt) u t (tt, (tt, tt)) (tt, (tt, tt))) $ says ! e $
       move ! (1 ∷ []) $ frame ! $ nothing ! $ move ! (3 ∷ 0 ∷ []) $ fjoin ! $ move ! (2 ∷ 0 ∷ []) $ fjoin ! $ frame ! $ done !
 
-  module _ (C : Calls 𝓤 H) (Λ : Loops 𝓤 H) (fm : FmC 𝓤 H (W .laws) C) (known-new : Triple 𝓤 (C #marks·new) (New 𝓤 H A mem run)) (known-close : Triple 𝓤 (C #marks·close) (Close 𝓤 H A mem run)) where
-    walk : Holds (hasTy K′.mir machK) × WT machK → Is (ShrSlice (named 0) κ u8) s (v ∷ [])
-        → ent 𝓤 (onEntry 𝓤 H A closed.signature (κ, tt) (q, tt) (st, (s, tt)) at) (WpFn 𝓤 H C Λ code.function (machK ∷ v ∷ []) Post)
+  module _ (C : Calls 𝓤 H) (Λ : Loops 𝓤 H) (fm : FmC 𝓤 H (W .laws) C) (known-new : Triple 𝓤 (C #mark_reader·new) (New 𝓤 H A mem run)) (known-close : Triple 𝓤 (C #mark_reader·close) (Close 𝓤 H A mem run)) where
+    walk : Holds (hasTy K′.mir (stateVal st)) × WT (stateVal st) → Is (ShrSlice (named 0) κ u8) s (pieceVal s ∷ [])
+        → ent 𝓤 (onEntry 𝓤 H A closed.signature (κ, tt) (q, tt) (st, (s, tt)) at) (WpFn 𝓤 H C Λ code.function (stateVal st ∷ pieceVal s ∷ []) Post)
     walk wk p =
-        qed W (raw (onEntry 𝓤 H A closed.signature (κ, tt) (q, tt) (st, (s, tt)) at) ∷ []) ∵ enter ! C Λ code.function (machK ∷ v ∷ []) _ $
-        alloc1 ! (λ l₀. alloc1 ! (λ l₁. alloc1 ! (λ l₂. alloc1 ! (λ l₃. alloc0 ! $ params1 ! $ pass1 ! (init ! 4 refl wk) $ pass1 ! (init ! 2 refl (shr-slice-lawful 𝓤 H A W (named 0) κ u8 .typed s (v ∷ []) p .0)) $ pass0 ! $
+        qed W (raw (onEntry 𝓤 H A closed.signature (κ, tt) (q, tt) (st, (s, tt)) at) ∷ []) ∵ enter ! C Λ code.function (stateVal st ∷ pieceVal s ∷ []) _ $
+        alloc1 ! (λ l₀. alloc1 ! (λ l₁. alloc1 ! (λ l₂. alloc1 ! (λ l₃. alloc0 ! $ params1 ! $ pass1 ! (init ! 4 refl wk) $ pass1 ! (init ! 2 refl (shr-slice-lawful 𝓤 H A W (named 0) κ u8 .typed s (pieceVal s ∷ []) p .0)) $ pass0 ! $
         -- [what is had on entry; _3; …; _2; …; _1; …; room for _0; …]
-        move ! (8 ∷ []) $ use1 W (raw (New 𝓤 H A mem run .pre (to-new 𝓤 H A mem run κ q s)) ⊛ (‵ OwnS ⊛ (‵ OwnK ⊛ ‵ OwnK))) apart $ split ! $
+        move ! (8 ∷ []) $ use1 W (raw (New 𝓤 H A mem run .pre (to-new 𝓤 H A mem run κ q s)) ⊛ (‵ (OwnPiece κ s) ⊛ (‵ (OwnState st) ⊛ ‵ (OwnState st)))) (apart 𝓤 H A mem run κ q s W st ftrue) $ split ! $
         calls-at ! fm (New 𝓤 H A mem run) known-new (to-new 𝓤 H A mem run κ q s) (and-then ! (load ! (from ! (stop !)) (look ! 4 refl)) (no-more !)) (λ u.
         use1 W (later (some (λ (r : Reader). ((‵ (flft κ q) ⊛ ‵ ftrue) ⊛ ‵ (B (κ, tt) .own r (u ∷ []))) ⊛ raw (ensured 𝓤 H A new.ended (new.clauses 𝓤 H A mem run) (κ, tt) (s, tt) tt r)))) (id⊢ 𝓤 _) $ await ! tt $ pick ! (λ r.
         split ! $ move ! (1 ∷ []) $ use1 W (raw (fact 𝓤 (r ≡ readerAt s 0))) (said-new 𝓤 H A mem run κ q s r) $ heard ! (r ≡ readerAt s 0) (λ made. split ! $ move ! (1 ∷ []) $
@@ -122,17 +102,12 @@ module _ {M : Type 1} (𝓤 : URA M) (H : Heap 𝓤) (A : Atoms 𝓤) (W : Given
         move ! (10 ∷ 11 ∷ []) $ free1 ! $ move ! (8 ∷ 9 ∷ []) $ free1 ! $ move ! (6 ∷ 7 ∷ []) $ free1 ! $ move ! (4 ∷ 5 ∷ []) $ free1 ! $ free0 ! $
         by ! (exits t w (e ∙ ap (λ (x : Reader). takenOf st (now (x .piece))) made))))))))))))))
 
-module _ {M : Type 1} (𝓤 : URA M) (H : Heap 𝓤) (A : Atoms 𝓤) (W : Given 𝓤 H A) (mem : Memory → SProp 𝓤) (run : Routine → Fun 𝓤) where
-  closed-walks : (C : Calls 𝓤 H) (Λ : Loops 𝓤 H) → FmC 𝓤 H (W .laws) C → Triple 𝓤 (C #marks·new) (New 𝓤 H A mem run) → Triple 𝓤 (C #marks·close) (Close 𝓤 H A mem run)
-      → Walks 𝓤 H A closed.ended stayed (WpFn 𝓤 H C Λ code.function) (closed.clauses 𝓤 H A mem run)
-  closed-walks C Λ fm known-new known-close = walked 𝓤 H A closed.ended stayed (closed.clauses 𝓤 H A mem run) (WpFn 𝓤 H C Λ code.function) (λ κs. (LL.vals K.the-type K′.the-laws, (slice-vals, tt))) (λ κs. (LL.tells K.the-type K′.the-laws, (shr-slice-tells (named 0) (κs .0) u8, tt)))
-      (λ κs qs bounds a g are. via 𝓤 _ (fst∗ 𝓤 _ (emp 𝓤)) (walk 𝓤 H A W mem run (κs .0) (qs .0) (a .0) (a .1 .0) C Λ fm known-new known-close (LL.lawful K.the-type K′.the-laws 𝓤 H A W .typed (a .0) _ (are .0) .0) (are .1 .0)))
-
 closed-meets : {M : Type 1} (𝓤 : URA M) (H : Heap 𝓤) (A : Atoms 𝓤) (W : Given 𝓤 H A) (mem : Memory → SProp 𝓤) (run : Routine → Fun 𝓤) (𝓣 : Tables 𝓤 H)
-    → Triple 𝓤 (𝓣 .C #marks·new) (New 𝓤 H A mem run) → Triple 𝓤 (𝓣 .C #marks·close) (Close 𝓤 H A mem run)
+    → Triple 𝓤 (𝓣 .C #mark_reader·new) (New 𝓤 H A mem run) → Triple 𝓤 (𝓣 .C #mark_reader·close) (Close 𝓤 H A mem run)
     → Meets 𝓤 H A closed.signature (WpFn 𝓤 H (𝓣 .C) (𝓣 .Λ) code.function) (closed.spec 𝓤 H A mem run)
 closed-meets 𝓤 H A W mem run 𝓣 known-new known-close = walk-meets 𝓤 H A closed.ended stayed W (goes-none 𝓤 H A W 1 (λ _. K.the-row) yes (λ κs x f. refl), (goes-none-slice 𝓤 H A W 1 (0 ∷ []) tt (plain (λ _. u8)) yes, tt)) (closed.clauses 𝓤 H A mem run) (WpFn 𝓤 H (𝓣 .C) (𝓣 .Λ) code.function) (WpFn-mono 𝓤 H (W .laws) 𝓣 code.function)
-    (closed-walks 𝓤 H A W mem run (𝓣 .C) (𝓣 .Λ) (fmOf 𝓤 H (W .laws) 𝓣) known-new known-close)
+    (walked 𝓤 H A closed.ended stayed (closed.clauses 𝓤 H A mem run) (WpFn 𝓤 H (𝓣 .C) (𝓣 .Λ) code.function) (λ κs. (LL.vals K.the-type K′.the-laws, (slice-vals, tt))) (λ κs. (LL.tells K.the-type K′.the-laws, (shr-slice-tells (named 0) (κs .0) u8, tt)))
+    (λ κs qs bounds a g are. via 𝓤 _ (fst∗ 𝓤 _ (emp 𝓤)) (walk 𝓤 H A W mem run (κs .0) (qs .0) (a .0) (a .1 .0) (𝓣 .C) (𝓣 .Λ) (fmOf 𝓤 H (W .laws) 𝓣) known-new known-close (LL.lawful K.the-type K′.the-laws 𝓤 H A W .typed (a .0) _ (are .0) .0) (are .1 .0))))
 
 pub closed-spec : {M : Type 1} → stated.statement M
 unfolding code.routine tablesOf
@@ -140,5 +115,5 @@ closed-spec 𝓤 H 𝓜 𝓖 𝓡 =
     entered 𝓤 H (tripleOf 𝓤 H (𝓖 .A) closed.signature (closed.spec 𝓤 H (𝓖 .A) (𝓜 .mem) (𝓡 .run)))
     (tables 𝓤 H 𝓜 𝓡 code.env .C) (tables 𝓤 H 𝓜 𝓡 code.env .Λ) #cuts·closed code.function (code.unfolded 𝓤 H 𝓜 𝓡)
     (closed-meets 𝓤 H (𝓖 .A) (givenOf 𝓤 H 𝓜 𝓖) (𝓜 .mem) (𝓡 .run) (tablesOf 𝓤 H 𝓜 (tables 𝓤 H 𝓜 𝓡 code.env))
-    (cited 𝓤 H (New 𝓤 H (𝓖 .A) (𝓜 .mem) (𝓡 .run)) 𝓜 𝓡 code.env #marks·new new-def.routine code.calls-marks·new (new-thm.met 𝓤 H 𝓜 𝓖 𝓡))
-    (cited 𝓤 H (Close 𝓤 H (𝓖 .A) (𝓜 .mem) (𝓡 .run)) 𝓜 𝓡 code.env #marks·close close-def.routine code.calls-marks·close (close-thm.met 𝓤 H 𝓜 𝓖 𝓡)))
+    (cited 𝓤 H (New 𝓤 H (𝓖 .A) (𝓜 .mem) (𝓡 .run)) 𝓜 𝓡 code.env #mark_reader·new new-def.routine code.calls-mark-reader·new (new-thm.met 𝓤 H 𝓜 𝓖 𝓡))
+    (cited 𝓤 H (Close 𝓤 H (𝓖 .A) (𝓜 .mem) (𝓡 .run)) 𝓜 𝓡 code.env #mark_reader·close close-def.routine code.calls-mark-reader·close (close-thm.met 𝓤 H 𝓜 𝓖 𝓡)))

@@ -1,4 +1,4 @@
--- `lines::put_damage` meets its contract: each field goes where the one before it ends.
+-- `lines::put_damage` meets its contract: each part goes where the one before it ends.
 -- Assumes nothing.
 use borrow.Author.Needs.{needs}
 use Rattle.lines.proofs.Putting.{put-damage}

@@ -5,47 +5,17 @@ use Rattle.lines.proofs.Putting.{line-accepted, line-refused}
 use Rattle.lines.proofs.put_line.Statement.{statement}
 use Rattle.lines.proofs.put_line.Tie as tie
 
-enum-known-answer : tie.Need-enum-known-answer
-enum-known-answer c = search needs
-
-worst-requires : tie.Need-worst-requires
-worst-requires c κs = search needs
-
-slice-aggregate-put-accepted : tie.Need-slice-aggregate-put-accepted
-slice-aggregate-put-accepted c = search needs
-
-put-accepted-requires : tie.Need-put-accepted-requires
-put-accepted-requires c κs = search needs
-
-enum-known-answer-2 : tie.Need-enum-known-answer-2
-enum-known-answer-2 c = search needs
-
-put-refused-requires : tie.Need-put-refused-requires
-put-refused-requires c κs = search needs
-
-same-length : tie.Need-same-length
-same-length c = search needs
-
-returns : tie.Need-returns
-returns c = (search (needs, line-accepted), search needs)
-
-same-length-2 : tie.Need-same-length-2
-same-length-2 c = search needs
-
-returns-2 : tie.Need-returns-2
-returns-2 c = (search (needs, line-refused), search needs)
-
 pub put-line-spec : {M : Type 1} → statement M
 put-line-spec =
     tie.close
     (tie.spec
-    enum-known-answer
-    worst-requires
-    slice-aggregate-put-accepted
-    put-accepted-requires
-    enum-known-answer-2
-    put-refused-requires
-    same-length
-    returns
-    same-length-2
-    returns-2)
+    (λ c. search needs)
+    (λ c κs. search needs)
+    (λ c. search needs)
+    (λ c κs. search needs)
+    (λ c. search needs)
+    (λ c κs. search needs)
+    (λ c. search needs)
+    (λ c. (search (needs, line-accepted), search needs))
+    (λ c. search needs)
+    (λ c. (search (needs, line-refused), search needs)))

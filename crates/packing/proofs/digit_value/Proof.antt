@@ -18,9 +18,6 @@ returns-3 : tie.Need-returns-3
 unfolding digitValue
 returns-3 c = search (needs, tests)
 
-add-result : tie.Need-add-result
-add-result c = search needs
-
 returns-4 : tie.Need-returns-4
 unfolding digitValue
 returns-4 c = search (needs, tests)
@@ -28,9 +25,6 @@ returns-4 c = search (needs, tests)
 returns-5 : tie.Need-returns-5
 unfolding digitValue
 returns-5 c = search (needs, tests)
-
-add-result-2 : tie.Need-add-result-2
-add-result-2 c = search needs
 
 returns-6 : tie.Need-returns-6
 unfolding digitValue
@@ -47,9 +41,9 @@ digit-value-spec =
     returns
     returns-2
     returns-3
-    add-result
+    (λ c. search needs)
     returns-4
     returns-5
-    add-result-2
+    (λ c. search needs)
     returns-6
     returns-7)

@@ -5,11 +5,9 @@ use Rattle.record_writer.proofs.LongPayload.{of-length, of-other}
 use Rattle.record_writer.proofs.of_whole.Statement.{statement}
 use Rattle.record_writer.proofs.of_whole.Tie as tie
 
-returns : tie.Need-returns
-returns c = search (needs, of-length)
-
-returns-2 : tie.Need-returns-2
-returns-2 c = search (needs, of-other)
-
 pub of-whole-spec : {M : Type 1} → statement M
-of-whole-spec = tie.close (tie.spec returns returns-2)
+of-whole-spec =
+    tie.close
+    (tie.spec
+    (λ c. search (needs, of-length))
+    (λ c. search (needs, of-other)))

@@ -13,49 +13,19 @@ Inv-loop table edition state piece from out₀ tally₀ to₀ at₀ out tally to
 abbrev μ-loop : tie.MeasureT-loop
 μ-loop table edition state piece from out₀ tally₀ to₀ at₀ out tally to at = length piece - at
 
-loop-holds : tie.Need-loop-holds Inv-loop μ-loop
-loop-holds c = search (needs, tell-starts)
-
-sub-loop : tie.Need-sub-loop Inv-loop μ-loop
-sub-loop c = search (needs, tell-inside)
-
-next-mark-requires : tie.Need-next-mark-requires Inv-loop μ-loop
-next-mark-requires c κs = search needs
-
-same-length : tie.Need-same-length Inv-loop μ-loop
-same-length c = search needs
-
-returns : tie.Need-returns Inv-loop μ-loop
-returns c = search (needs, tell-over)
-
-put-mark-requires : tie.Need-put-mark-requires Inv-loop μ-loop
-put-mark-requires c κs = (search needs, (search (needs, tell-room), search (needs, tell-line)))
-
-loop-less : tie.Need-loop-less Inv-loop μ-loop
-loop-less c = search (needs, tell-less)
-
-loop-again : tie.Need-loop-again Inv-loop μ-loop
-loop-again c = search (needs, tell-goes-on)
-
-same-length-2 : tie.Need-same-length-2 Inv-loop μ-loop
-same-length-2 c = search needs
-
-returns-2 : tie.Need-returns-2 Inv-loop μ-loop
-returns-2 c = search (needs, tell-ends)
-
 pub put-marks-spec : {M : Type 1} → statement M
 put-marks-spec =
     tie.close
     (tie.spec
     Inv-loop
     μ-loop
-    loop-holds
-    sub-loop
-    next-mark-requires
-    same-length
-    returns
-    put-mark-requires
-    loop-less
-    loop-again
-    same-length-2
-    returns-2)
+    (λ c. search (needs, tell-starts))
+    (λ c. search (needs, tell-inside))
+    (λ c κs. search needs)
+    (λ c. search needs)
+    (λ c. search (needs, tell-over))
+    (λ c κs. (search needs, (search (needs, tell-room), search (needs, tell-line))))
+    (λ c. search (needs, tell-less))
+    (λ c. search (needs, tell-goes-on))
+    (λ c. search needs)
+    (λ c. search (needs, tell-ends)))

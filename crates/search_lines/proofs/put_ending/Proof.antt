@@ -5,17 +5,11 @@ use Rattle.text.proofs.Laid.{put-then}
 use Rattle.search_lines.proofs.put_ending.Statement.{statement}
 use Rattle.search_lines.proofs.put_ending.Tie as tie
 
-put-stop-requires : tie.Need-put-stop-requires
-put-stop-requires c κs = search needs
-
-put-last-requires : tie.Need-put-last-requires
-put-last-requires c κs = search needs
-
-same-length : tie.Need-same-length
-same-length c = search needs
-
-returns : tie.Need-returns
-returns c = search (needs, put-then)
-
 pub put-ending-spec : {M : Type 1} → statement M
-put-ending-spec = tie.close (tie.spec put-stop-requires put-last-requires same-length returns)
+put-ending-spec =
+    tie.close
+    (tie.spec
+    (λ c κs. search needs)
+    (λ c κs. search needs)
+    (λ c. search needs)
+    (λ c. search (needs, put-then)))

@@ -5,35 +5,14 @@ use Rattle.sheet.proofs.Offering.{accepts}
 use Rattle.sheet.proofs.accept.Statement.{statement}
 use Rattle.sheet.proofs.accept.Tie as tie
 
-cast-k : tie.Need-cast-k
-cast-k c = search needs
-
-mul-source : tie.Need-mul-source
-mul-source c = search needs
-
-element-copy-out-source : tie.Need-element-copy-out-source
-element-copy-out-source c = search needs
-
-hear-requires : tie.Need-hear-requires
-hear-requires c κs = search needs
-
-mul-changed : tie.Need-mul-changed
-mul-changed c = search needs
-
-element-set-from-changed : tie.Need-element-set-from-changed
-element-set-from-changed c = search needs
-
-returns : tie.Need-returns
-returns c = search (needs, accepts)
-
 pub accept-spec : {M : Type 1} → statement M
 accept-spec =
     tie.close
     (tie.spec
-    cast-k
-    mul-source
-    element-copy-out-source
-    hear-requires
-    mul-changed
-    element-set-from-changed
-    returns)
+    (λ c. search needs)
+    (λ c. search needs)
+    (λ c. search needs)
+    (λ c κs. search needs)
+    (λ c. search needs)
+    (λ c. search needs)
+    (λ c. search (needs, accepts)))

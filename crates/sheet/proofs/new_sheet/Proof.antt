@@ -5,11 +5,5 @@ use Rattle.sheet.proofs.Offering.{starts-new}
 use Rattle.sheet.proofs.new_sheet.Statement.{statement}
 use Rattle.sheet.proofs.new_sheet.Tie as tie
 
-never-heard-requires : tie.Need-never-heard-requires
-never-heard-requires c κs = search needs
-
-returns : tie.Need-returns
-returns c = search (needs, starts-new)
-
 pub new-sheet-spec : {M : Type 1} → statement M
-new-sheet-spec = tie.close (tie.spec never-heard-requires returns)
+new-sheet-spec = tie.close (tie.spec (λ c κs. search needs) (λ c. search (needs, starts-new)))

@@ -1,21 +1,26 @@
--- `sheet_lines::put_lane` meets its contract: the counter goes where the counts end.
+-- `sheet_lines::put_lane` meets its contract, by whether the lane was heard.
 -- Assumes nothing.
 use borrow.Author.Needs.{needs}
-use Rattle.sheet_lines.proofs.Putting.{put-lane}
+use Rattle.sheet_lines.proofs.Putting.{lane-heard, lane-none}
 use Rattle.sheet_lines.proofs.put_lane.Statement.{statement}
 use Rattle.sheet_lines.proofs.put_lane.Tie as tie
 
-put-counts-requires : tie.Need-put-counts-requires
-put-counts-requires c κs = search needs
-
-put-counter-requires : tie.Need-put-counter-requires
-put-counter-requires c κs = search needs
-
-same-length : tie.Need-same-length
-same-length c = search needs
-
-returns : tie.Need-returns
-returns c = (search (needs, put-lane), search needs)
-
 pub put-lane-spec : {M : Type 1} → statement M
-put-lane-spec = tie.close (tie.spec put-counts-requires put-counter-requires same-length returns)
+put-lane-spec =
+    tie.close
+    (tie.spec
+    (λ c. search needs)
+    (λ c. search needs)
+    (λ c. search needs)
+    (λ c. search needs)
+    (λ c. search needs)
+    (λ c. search needs)
+    (λ c. search needs)
+    (λ c κs. search needs)
+    (λ c. search needs)
+    (λ c. (search (needs, lane-heard), search needs))
+    (λ c. search needs)
+    (λ c. search needs)
+    (λ c κs. search needs)
+    (λ c. search needs)
+    (λ c. (search (needs, lane-none), search needs)))

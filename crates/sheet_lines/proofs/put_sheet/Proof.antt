@@ -5,18 +5,11 @@ use Rattle.sheet_lines.proofs.Putting.{put-sheet}
 use Rattle.sheet_lines.proofs.put_sheet.Statement.{statement}
 use Rattle.sheet_lines.proofs.put_sheet.Tie as tie
 
-put-sources-requires : tie.Need-put-sources-requires
-put-sources-requires c κs = search needs
-
-put-refusals-requires : tie.Need-put-refusals-requires
-put-refusals-requires c κs = search needs
-
-same-length : tie.Need-same-length
-same-length c = search needs
-
-returns : tie.Need-returns
-returns c = (search (needs, put-sheet), search needs)
-
 pub put-sheet-spec : {M : Type 1} → statement M
 put-sheet-spec =
-    tie.close (tie.spec put-sources-requires put-refusals-requires same-length returns)
+    tie.close
+    (tie.spec
+    (λ c κs. search needs)
+    (λ c κs. search needs)
+    (λ c. search needs)
+    (λ c. (search (needs, put-sheet), search needs)))

@@ -13,24 +13,6 @@ Inv-loop satellite bits₀ n₀ bits n = Filled (signBit satellite) signWidth bi
 abbrev μ-loop : tie.MeasureT-loop
 μ-loop satellite bits₀ n₀ bits n = signWidth - n
 
-loop-holds : tie.Need-loop-holds Inv-loop μ-loop
-loop-holds c = search (needs, fill-starts)
-
-sign-bit-requires : tie.Need-sign-bit-requires Inv-loop μ-loop
-sign-bit-requires c κs = search needs
-
-array-write-bits : tie.Need-array-write-bits Inv-loop μ-loop
-array-write-bits c = search needs
-
-add-n : tie.Need-add-n Inv-loop μ-loop
-add-n c = search needs
-
-loop-less : tie.Need-loop-less Inv-loop μ-loop
-loop-less c = search needs
-
-loop-again : tie.Need-loop-again Inv-loop μ-loop
-loop-again c = search (needs, fill-goes-on)
-
 returns : tie.Need-returns Inv-loop μ-loop
 unfolding signOf
 returns c = search (needs, fill-whole)
@@ -41,10 +23,10 @@ call-sign-spec =
     (tie.spec
     Inv-loop
     μ-loop
-    loop-holds
-    sign-bit-requires
-    array-write-bits
-    add-n
-    loop-less
-    loop-again
+    (λ c. search (needs, fill-starts))
+    (λ c κs. search needs)
+    (λ c. search needs)
+    (λ c. search needs)
+    (λ c. search needs)
+    (λ c. search (needs, fill-goes-on))
     returns)

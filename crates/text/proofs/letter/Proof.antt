@@ -5,24 +5,13 @@ use Rattle.text.proofs.Fixed.{letter-low, letter-high}
 use Rattle.text.proofs.letter.Statement.{statement}
 use Rattle.text.proofs.letter.Tie as tie
 
-cast-result : tie.Need-cast-result
-cast-result c = search needs
-
-add-result : tie.Need-add-result
-add-result c = search needs
-
-returns : tie.Need-returns
-returns c = search (needs, letter-low)
-
-cast-result-2 : tie.Need-cast-result-2
-cast-result-2 c = search needs
-
-add-result-2 : tie.Need-add-result-2
-add-result-2 c = search needs
-
-returns-2 : tie.Need-returns-2
-returns-2 c = search (needs, letter-high)
-
 pub letter-spec : {M : Type 1} → statement M
 letter-spec =
-    tie.close (tie.spec cast-result add-result returns cast-result-2 add-result-2 returns-2)
+    tie.close
+    (tie.spec
+    (λ c. search needs)
+    (λ c. search needs)
+    (λ c. search (needs, letter-low))
+    (λ c. search needs)
+    (λ c. search needs)
+    (λ c. search (needs, letter-high)))

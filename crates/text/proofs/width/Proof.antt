@@ -12,24 +12,15 @@ Inv-loop n tenth unit₀ k₀ unit k = Counted n unit k
 abbrev μ-loop : tie.MeasureT-loop
 μ-loop n tenth unit₀ k₀ unit k = n - unit
 
-loop-holds : tie.Need-loop-holds Inv-loop μ-loop
-loop-holds c = search (needs, starts)
-
-mul-unit : tie.Need-mul-unit Inv-loop μ-loop
-mul-unit c = search needs
-
-add-k : tie.Need-add-k Inv-loop μ-loop
-add-k c = search needs
-
-loop-less : tie.Need-loop-less Inv-loop μ-loop
-loop-less c = search needs
-
-loop-again : tie.Need-loop-again Inv-loop μ-loop
-loop-again c = search (needs, goes-on)
-
-returns : tie.Need-returns Inv-loop μ-loop
-returns c = search (needs, ends, ends-short)
-
 pub width-spec : {M : Type 1} → statement M
 width-spec =
-    tie.close (tie.spec Inv-loop μ-loop loop-holds mul-unit add-k loop-less loop-again returns)
+    tie.close
+    (tie.spec
+    Inv-loop
+    μ-loop
+    (λ c. search (needs, starts))
+    (λ c. search needs)
+    (λ c. search needs)
+    (λ c. search needs)
+    (λ c. search (needs, goes-on))
+    (λ c. search (needs, ends, ends-short)))

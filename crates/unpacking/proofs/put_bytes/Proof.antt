@@ -13,45 +13,18 @@ Inv-loop out₀ at bytes base width to₀ i₀ out to i = Digits out₀ at base 
 abbrev μ-loop : tie.MeasureT-loop
 μ-loop out₀ at bytes base width to₀ i₀ out to i = length bytes - i
 
-loop-holds : tie.Need-loop-holds Inv-loop μ-loop
-loop-holds c = search (needs, starts)
-
-shared-slice-read-wide : tie.Need-shared-slice-read-wide Inv-loop μ-loop
-shared-slice-read-wide c = search needs
-
-wide-requires : tie.Need-wide-requires Inv-loop μ-loop
-wide-requires c κs = search needs
-
-put-digits-requires : tie.Need-put-digits-requires Inv-loop μ-loop
-put-digits-requires c κs = (search needs, search (needs, has-room))
-
-add-i : tie.Need-add-i Inv-loop μ-loop
-add-i c = search needs
-
-loop-less : tie.Need-loop-less Inv-loop μ-loop
-loop-less c = search needs
-
-loop-again : tie.Need-loop-again Inv-loop μ-loop
-loop-again c = search (needs, goes-on)
-
-same-length : tie.Need-same-length Inv-loop μ-loop
-same-length c = search needs
-
-returns : tie.Need-returns Inv-loop μ-loop
-returns c = (search (needs, ends), search (needs, ends-short))
-
 pub put-bytes-spec : {M : Type 1} → statement M
 put-bytes-spec =
     tie.close
     (tie.spec
     Inv-loop
     μ-loop
-    loop-holds
-    shared-slice-read-wide
-    wide-requires
-    put-digits-requires
-    add-i
-    loop-less
-    loop-again
-    same-length
-    returns)
+    (λ c. search (needs, starts))
+    (λ c. search needs)
+    (λ c κs. search needs)
+    (λ c κs. (search needs, search (needs, has-room)))
+    (λ c. search needs)
+    (λ c. search needs)
+    (λ c. search (needs, goes-on))
+    (λ c. search needs)
+    (λ c. (search (needs, ends), search (needs, ends-short))))

@@ -13,37 +13,16 @@ Inv-loop bits k all₀ i₀ all i = Clearing bits k i all
 abbrev μ-loop : tie.MeasureT-loop
 μ-loop bits k all₀ i₀ all i = blockSize - i
 
-loop-holds : tie.Need-loop-holds Inv-loop μ-loop
-loop-holds c = search (needs, clear-starts)
-
-add-unlike : tie.Need-add-unlike Inv-loop μ-loop
-add-unlike c = search needs
-
-unlike-requires : tie.Need-unlike-requires Inv-loop μ-loop
-unlike-requires c κs = search needs
-
-add-i : tie.Need-add-i Inv-loop μ-loop
-add-i c = search needs
-
-loop-less : tie.Need-loop-less Inv-loop μ-loop
-loop-less c = search needs
-
-loop-again : tie.Need-loop-again Inv-loop μ-loop
-loop-again c = search (needs, clear-goes-on)
-
-returns : tie.Need-returns Inv-loop μ-loop
-returns c = search (needs, clear-ends)
-
 pub clear-spec : {M : Type 1} → statement M
 clear-spec =
     tie.close
     (tie.spec
     Inv-loop
     μ-loop
-    loop-holds
-    add-unlike
-    unlike-requires
-    add-i
-    loop-less
-    loop-again
-    returns)
+    (λ c. search (needs, clear-starts))
+    (λ c. search needs)
+    (λ c κs. search needs)
+    (λ c. search needs)
+    (λ c. search needs)
+    (λ c. search (needs, clear-goes-on))
+    (λ c. search (needs, clear-ends)))

@@ -15,24 +15,6 @@ Inv-loop kept piece bits₀ i₀ bits i = Filled (elementOf (kept ++ piece)) edg
 abbrev μ-loop : tie.MeasureT-loop
 μ-loop kept piece bits₀ i₀ bits i = edgeBits - i
 
-loop-holds : tie.Need-loop-holds Inv-loop μ-loop
-loop-holds c = search (needs, fill-starts)
-
-joined-bit-requires : tie.Need-joined-bit-requires Inv-loop μ-loop
-joined-bit-requires c κs = search needs
-
-array-write-bits : tie.Need-array-write-bits Inv-loop μ-loop
-array-write-bits c = search needs
-
-add-i : tie.Need-add-i Inv-loop μ-loop
-add-i c = search needs
-
-loop-less : tie.Need-loop-less Inv-loop μ-loop
-loop-less c = search needs
-
-loop-again : tie.Need-loop-again Inv-loop μ-loop
-loop-again c = search (needs, fill-goes-on)
-
 returns : tie.Need-returns Inv-loop μ-loop
 unfolding edgeOf
 returns c = search (needs, fill-whole)
@@ -43,10 +25,10 @@ edge-spec =
     (tie.spec
     Inv-loop
     μ-loop
-    loop-holds
-    joined-bit-requires
-    array-write-bits
-    add-i
-    loop-less
-    loop-again
+    (λ c. search (needs, fill-starts))
+    (λ c κs. search needs)
+    (λ c. search needs)
+    (λ c. search needs)
+    (λ c. search needs)
+    (λ c. search (needs, fill-goes-on))
     returns)

@@ -5,31 +5,13 @@ use Rattle.marks.proofs.Joining.{window-of-edge, window-of-piece}
 use Rattle.marks.proofs.scanning.window_at.Statement.{statement}
 use Rattle.marks.proofs.scanning.window_at.Tie as tie
 
-edge-requires : tie.Need-edge-requires
-edge-requires c κs = search needs
-
-slice-aggregate-window : tie.Need-slice-aggregate-window
-slice-aggregate-window c = search needs
-
-window-requires : tie.Need-window-requires
-window-requires c κs = search needs
-
-returns : tie.Need-returns
-returns c = search (needs, window-of-edge)
-
-window-requires-2 : tie.Need-window-requires-2
-window-requires-2 c κs = search needs
-
-returns-2 : tie.Need-returns-2
-returns-2 c = search (needs, window-of-piece)
-
 pub window-at-spec : {M : Type 1} → statement M
 window-at-spec =
     tie.close
     (tie.spec
-    edge-requires
-    slice-aggregate-window
-    window-requires
-    returns
-    window-requires-2
-    returns-2)
+    (λ c κs. search needs)
+    (λ c. search needs)
+    (λ c κs. search needs)
+    (λ c. search (needs, window-of-edge))
+    (λ c κs. search needs)
+    (λ c. search (needs, window-of-piece)))

@@ -5,14 +5,10 @@ use Rattle.word.proofs.Answer.{row-of}
 use Rattle.word.proofs.table.row_in.Statement.{statement}
 use Rattle.word.proofs.table.row_in.Tie as tie
 
-mul-result : tie.Need-mul-result
-mul-result c = search needs
-
-element-copy-out-result : tie.Need-element-copy-out-result
-element-copy-out-result c = search needs
-
-returns : tie.Need-returns
-returns c = search (needs, row-of)
-
 pub row-in-spec : {M : Type 1} → statement M
-row-in-spec = tie.close (tie.spec mul-result element-copy-out-result returns)
+row-in-spec =
+    tie.close
+    (tie.spec
+    (λ c. search needs)
+    (λ c. search needs)
+    (λ c. search (needs, row-of)))

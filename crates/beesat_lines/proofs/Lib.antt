@@ -1,4 +1,0 @@
-pub mod Putting
-pub mod Numbers
-pub mod States
-pub mod Worked

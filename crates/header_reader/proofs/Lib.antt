@@ -1,0 +1,11 @@
+pub mod Passed
+pub mod Judging
+pub mod Rows
+pub mod GoesOn
+pub mod Beside
+pub mod RoundTrip
+pub mod OtherEdition
+pub mod Given
+pub mod Accepted
+pub mod Damage
+pub mod Writing

@@ -1,0 +1,10 @@
+pub mod Kept
+pub mod Rounded
+pub mod Quotients
+pub mod Third
+pub mod Before
+pub mod Exact
+pub mod Spreads
+pub mod Terms
+pub mod Given
+pub mod Worked

@@ -1,0 +1,4 @@
+pub mod Growing
+pub mod Lanes
+pub mod Totals
+pub mod Counts
