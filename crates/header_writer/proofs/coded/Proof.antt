@@ -17,6 +17,30 @@ Inv-loop hi lo words₀ j₀ words j = Filled (λ k. encodeOf (dataAt (headerBit
 abbrev μ-loop : tie.MeasureT-loop
 μ-loop hi lo words₀ j₀ words j = 14 - j
 
+loop-holds : tie.Need-loop-holds Inv-loop μ-loop
+loop-holds c = search (needs, fill-starts)
+
+data-at-requires : tie.Need-data-at-requires Inv-loop μ-loop
+data-at-requires c κs = search needs
+
+encode-requires : tie.Need-encode-requires Inv-loop μ-loop
+encode-requires c κs = search (needs, coded-asked)
+
+mul-words : tie.Need-mul-words Inv-loop μ-loop
+mul-words c = search needs
+
+array-write-words : tie.Need-array-write-words Inv-loop μ-loop
+array-write-words c = search needs
+
+add-j : tie.Need-add-j Inv-loop μ-loop
+add-j c = search needs
+
+loop-less : tie.Need-loop-less Inv-loop μ-loop
+loop-less c = search needs
+
+loop-again : tie.Need-loop-again Inv-loop μ-loop
+loop-again c = search (needs, fill-goes-on, coded-word)
+
 returns : tie.Need-returns Inv-loop μ-loop
 unfolding codedOf
 returns c = search (needs, fill-whole)
@@ -27,12 +51,12 @@ coded-spec =
     (tie.spec
     Inv-loop
     μ-loop
-    (λ c. search (needs, fill-starts))
-    (λ c κs. search needs)
-    (λ c κs. search (needs, coded-asked))
-    (λ c. search needs)
-    (λ c. search needs)
-    (λ c. search needs)
-    (λ c. search needs)
-    (λ c. search (needs, fill-goes-on, coded-word))
+    loop-holds
+    data-at-requires
+    encode-requires
+    mul-words
+    array-write-words
+    add-j
+    loop-less
+    loop-again
     returns)
