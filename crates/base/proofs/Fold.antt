@@ -8,8 +8,6 @@ use native.Mathlib.Numerals.{add-one}
 use native.Mathlib.Omega.{arith}
 use lib.ListN.{length, getD, drop, drop-of-length-le}
 use lib.Seq.{drop-cons, drop-length}
-use Rattle.base.specs.Lists.{tabulate}
-use Rattle.base.proofs.Tabulate.{tabulate-length, tabulate-at}
 
 module _ {A S : Type 0} (f : S → A → S) (start : S) (l : List A) where
   -- the elements before i are in the state
@@ -43,14 +41,3 @@ module _ {A S : Type 0} (f : S → A → S) (start : S) (l : List A) where
 
     pub down-ends : Downward i state → i ≤ 0 → state ≡ foldl f start (reverse l)
     down-ends so h = let none : i ≡ 0 = omega arith in rw none at (so .done)
-
--- a loop that folds a list made by a rule: it reads the rule, and no list
-module _ {A S : Type 0} (f : S → A → S) (start : S) (n : ℕ) (rule : ℕ → A) where
-  module _ (i : ℕ) (state : S) (so : Upward f start (tabulate n rule) i state) where
-    pub rule-goes-on : i < n → (next : S) → next ≡ f state (rule i) → Upward f start (tabulate n rule) (i + 1) next
-    rule-goes-on h next e =
-        up-goes-on f start (tabulate n rule) i state (rule i) so (rw tabulate-length h) next
-        (e ∙ ap (f state) (sym (tabulate-at rule (rule i) n i h)))
-
-    pub rule-ends : n ≤ i → state ≡ foldl f start (tabulate n rule)
-    rule-ends h = up-ends f start (tabulate n rule) i state so (rw tabulate-length h)

@@ -56,10 +56,6 @@ pub starts : freshState ≡ grown []
 unfolding freshState grown
 starts = rw (append-nil zeros)
 
-pub grown-long : (done : List ℕ) → length (grown done .bits) ≡ windowBits
-unfolding grown
-grown-long done = kept-long zeros done [] zeros-long
-
 pub grown-total : (done : List ℕ) → grown done .total ≡ length done
 unfolding grown
 grown-total done = refl

@@ -8,7 +8,7 @@ use lib.ListN.{length, take, drop, length-append, length-drop, List·getD-append
 use lib.Seq.{take-append-le, drop-append-le}
 use Rattle.air.specs.Air.{airBits}
 use Rattle.record.specs.declared.Cut.the-variants.{Record, TooLong}
-use Rattle.record.specs.Records.{lengthBytes, lengthIn, airIn, payloadStart, payloadIn, recordSize, cutOf}
+use Rattle.record.specs.Records.{lengthBytes, lengthIn, airIn, payloadStart, payloadIn, cutOf}
 use Rattle.record.proofs.Cuts.{too-long, is-whole, WholeAt, whole-at, long-at}
 
 module _ (l f : List ℕ) where
@@ -40,6 +40,3 @@ module _ (l f : List ℕ) where
 
     pub payload-stays : payloadIn n (l ++ f) ≡ payloadIn n l
     payload-stays = part-stays payloadStart n (so .there)
-
-    pub rest-stays : drop (recordSize n) (l ++ f) ≡ drop (recordSize n) l ++ f
-    rest-stays = drop-append-le (recordSize n) l f (so .there)

@@ -1,6 +1,6 @@
 -- What is cut off the front of some bytes, item after item, until it stops or waits for more, however the bytes come.
 -- Assumes nothing.
-use mathlib.Core.Bool.{Bool, true, false}
+use mathlib.Core.Bool.{Bool}
 use mathlib.Core.List.{List, [], _∷_, _++_}
 use Prim.Native.Nat.{ℕ, zero, suc}
 use lib.Dec.{ltb}
@@ -43,10 +43,6 @@ preceded text c = record { text = text ++ c .text; told = c .told }
 -- whether so many bytes that are left are cut
 abbrev pub cutWith : ℕ → Bool
 cutWith left = ltb 0 left
-
-abbrev pub isOver : {R : Type 0} → Ended R → Bool
-isOver waiting = false
-isOver (stopped why) = true
 
 module _ {S R : Type 0} where
   -- the last lines, after `cut` where bytes are left
