@@ -9,68 +9,68 @@ use lib.Count.{ones_in}
 use lib.Dec.{lit<}
 use lib.ListN.{length, get_or, replicate}
 use borrow.Author.Tests.{lt-ltb, le-ltb}
-use Rattle.base.proofs.Tests.{lt-or-ge}
-use Rattle.base.proofs.Lowest.{lowest-is}
-use Rattle.base.proofs.Tabulate.{tabulate-length, tabulate-all}
-use Rattle.word.specs.Words.{wordLimit, flipCount}
-use Rattle.word.specs.Repairs.{isBeyond, word_of, patternOf, radius}
-use Rattle.word.proofs.Answer.{repaired-lt, repair-few, pattern_lt}
+use Rattle.base.proofs.Tests.{lt_or_ge}
+use Rattle.base.proofs.Lowest.{lowest_is}
+use Rattle.base.proofs.Tabulate.{tabulate_length, tabulate_all}
+use Rattle.word.specs.Words.{word_limit, flip_count}
+use Rattle.word.specs.Repairs.{is_beyond, word_of, pattern_of, radius}
+use Rattle.word.proofs.Answer.{repaired_lt, repair_few, pattern_lt}
 use Rattle.air.specs.declared.RepairedWords.{RepairedWords}
-use Rattle.air.specs.Air.{wordCount}
-use Rattle.air.specs.WordRepairs.{repairAt, firstBeyond, repairedOf, patternsIn, flipTotal, flipsIn, repairWordsOf}
+use Rattle.air.specs.Air.{word_count}
+use Rattle.air.specs.WordRepairs.{repair_at, first_beyond, repaired_of, patterns_in, flip_total, flips_in, repair_words_of}
 
 module _ (words : List ℕ) where
-  pub beyond-le : firstBeyond words ≤ wordCount
-  unfolding firstBeyond
-  beyond-le = (lowest-is (λ j. isBeyond (repairAt words j)) wordCount).inside
+  pub beyond_le : first_beyond words ≤ word_count
+  unfolding first_beyond
+  beyond_le = (lowest_is (λ j. is_beyond (repair_at words j)) word_count).inside
 
-  pub repaired-words : (k : ℕ) → get_or (repairedOf words) k 0 < wordLimit
-  unfolding repairedOf
-  repaired-words = tabulate-all (λ w. w < wordLimit) (λ j. word_of (repairAt words j)) wordCount (lit< tt) (λ j h. repaired-lt (get_or words j 0))
+  pub repaired_words : (k : ℕ) → get_or (repaired_of words) k 0 < word_limit
+  unfolding repaired_of
+  repaired_words = tabulate_all (λ w. w < word_limit) (λ j. word_of (repair_at words j)) word_count (lit< tt) (λ j h. repaired_lt (get_or words j 0))
 
   -- each pattern is "a 15-bit number with at most three ones", and the total is the ones of all
-  pub patterns-length : length (patternsIn words) ≡ wordCount
-  unfolding patternsIn
-  patterns-length = tabulate-length (λ j. patternOf (repairAt words j)) wordCount
+  pub patterns_length : length (patterns_in words) ≡ word_count
+  unfolding patterns_in
+  patterns_length = tabulate_length (λ j. pattern_of (repair_at words j)) word_count
 
-  pub patterns-lt : (k : ℕ) → get_or (patternsIn words) k 0 < wordLimit
-  unfolding patternsIn
-  patterns-lt = tabulate-all (λ e. e < wordLimit) (λ j. patternOf (repairAt words j)) wordCount (lit< tt) (λ j h. pattern_lt (get_or words j 0))
+  pub patterns_lt : (k : ℕ) → get_or (patterns_in words) k 0 < word_limit
+  unfolding patterns_in
+  patterns_lt = tabulate_all (λ e. e < word_limit) (λ j. pattern_of (repair_at words j)) word_count (lit< tt) (λ j h. pattern_lt (get_or words j 0))
 
-  pub patterns-few : (k : ℕ) → flipCount (get_or (patternsIn words) k 0) ≤ radius
-  unfolding patternsIn ones_in
-  patterns-few = tabulate-all (λ e. flipCount e ≤ radius) (λ j. patternOf (repairAt words j)) wordCount zero-le (λ j h. repair-few (get_or words j 0))
+  pub patterns_few : (k : ℕ) → flip_count (get_or (patterns_in words) k 0) ≤ radius
+  unfolding patterns_in ones_in
+  patterns_few = tabulate_all (λ e. flip_count e ≤ radius) (λ j. pattern_of (repair_at words j)) word_count zero-le (λ j h. repair_few (get_or words j 0))
 
-  pub flips-are-ones : flipsIn words ≡ flipTotal (patternsIn words)
-  unfolding flipsIn
-  flips-are-ones = refl
+  pub flips_are_ones : flips_in words ≡ flip_total (patterns_in words)
+  unfolding flips_in
+  flips_are_ones = refl
 
-  stopped : firstBeyond words < wordCount → repairWordsOf words ≡ record { words = replicate wordCount 0; patterns = replicate wordCount 0; flips = 0; beyond = firstBeyond words }
-  unfolding repairWordsOf
-  stopped h = rw (lt-ltb (firstBeyond words) wordCount h)
+  stopped : first_beyond words < word_count → repair_words_of words ≡ record { words = replicate word_count 0; patterns = replicate word_count 0; flips = 0; beyond = first_beyond words }
+  unfolding repair_words_of
+  stopped h = rw (lt-ltb (first_beyond words) word_count h)
 
-  whole : wordCount ≤ firstBeyond words → repairWordsOf words ≡ record { words = repairedOf words; patterns = patternsIn words; flips = flipsIn words; beyond = wordCount }
-  unfolding repairWordsOf
-  whole h = rw (le-ltb (firstBeyond words) wordCount h)
+  whole : word_count ≤ first_beyond words → repair_words_of words ≡ record { words = repaired_of words; patterns = patterns_in words; flips = flips_in words; beyond = word_count }
+  unfolding repair_words_of
+  whole h = rw (le-ltb (first_beyond words) word_count h)
 
-  pub told-beyond : (m : RepairedWords) → m ≡ repairWordsOf words → m.beyond ≡ firstBeyond words
-  told-beyond m is =
-      ⊎_elim (λ (h : firstBeyond words < wordCount). ap (λ (x : RepairedWords). x.beyond) (is ∙ stopped h))
-      (λ (h : wordCount ≤ firstBeyond words). ap (λ (x : RepairedWords). x.beyond) (is ∙ whole h) ∙ omega (arith, beyond-le))
-      (lt-or-ge (firstBeyond words) wordCount)
+  pub told_beyond : (m : RepairedWords) → m ≡ repair_words_of words → m.beyond ≡ first_beyond words
+  told_beyond m is =
+      ⊎_elim (λ (h : first_beyond words < word_count). ap (λ (x : RepairedWords). x.beyond) (is ∙ stopped h))
+      (λ (h : word_count ≤ first_beyond words). ap (λ (x : RepairedWords). x.beyond) (is ∙ whole h) ∙ omega (arith, beyond_le))
+      (lt_or_ge (first_beyond words) word_count)
 
   -- where no word is beyond repair, all are repaired
   pub record AllRepaired (m : RepairedWords) : Type 0 where
-    pub none-beyond : firstBeyond words ≡ wordCount
-    pub all : m.words ≡ repairedOf words
-    pub patterned : m.patterns ≡ patternsIn words
-    pub counted : m.flips ≡ flipsIn words
+    pub none_beyond : first_beyond words ≡ word_count
+    pub all : m.words ≡ repaired_of words
+    pub patterned : m.patterns ≡ patterns_in words
+    pub counted : m.flips ≡ flips_in words
 
-  pub told-all : (m : RepairedWords) → m ≡ repairWordsOf words → wordCount ≤ m.beyond → AllRepaired m
-  told-all m is h =
-      let none : wordCount ≤ firstBeyond words = rw (told-beyond m is) at h in
+  pub told_all : (m : RepairedWords) → m ≡ repair_words_of words → word_count ≤ m.beyond → AllRepaired m
+  told_all m is h =
+      let none : word_count ≤ first_beyond words = rw (told_beyond m is) at h in
       record {
-        none-beyond = omega (arith, beyond-le);
+        none_beyond = omega (arith, beyond_le);
         all = ap (λ (x : RepairedWords). x.words) (is ∙ whole none);
         patterned = ap (λ (x : RepairedWords). x.patterns) (is ∙ whole none);
         counted = ap (λ (x : RepairedWords). x.flips) (is ∙ whole none);

@@ -13,59 +13,59 @@ use lib.ListN.{length, get_or, take, get_or-eq_default}
 use lib.Seq.{get_or-take, length-take-le}
 use borrow.Author.Tests.{lt-ltb, le-ltb, ltb-false}
 use Rattle.base.specs.Lists.{AreBits}
-use Rattle.base.proofs.Tests.{lt-or-ge}
-use Rattle.base.proofs.Lowest.{Passed, starts, goes_on, stops, ends, lowest-none, lowest-is}
-use Rattle.air.specs.Air.{firstNoBit}
+use Rattle.base.proofs.Tests.{lt_or_ge}
+use Rattle.base.proofs.Lowest.{Passed, starts, goes_on, stops, ends, lowest_none, lowest_is}
+use Rattle.air.specs.Air.{first_no_bit}
 
 -- element k is above 1
-abbrev pub noBit : List ℕ → ℕ → Bool
-noBit l k = ltb 1 (get_or l k 0)
+abbrev pub no_bit : List ℕ → ℕ → Bool
+no_bit l k = ltb 1 (get_or l k 0)
 
 -- the elements before i are 0 or 1
 abbrev pub Looked : List ℕ → ℕ → Type 0
-Looked l i = Passed (length l) (noBit l) i
+Looked l i = Passed (length l) (no_bit l) i
 
-pub look-starts : (l : List ℕ) → Looked l 0
-look-starts l = starts (length l) (noBit l)
+pub look_starts : (l : List ℕ) → Looked l 0
+look_starts l = starts (length l) (no_bit l)
 
 module _ (l : List ℕ) (i : ℕ) (so : Looked l i) where
-  pub look-goes-on : i < length l → get_or l i 0 ≤ 1 → Looked l (i + 1)
-  look-goes-on h b = goes_on (length l) (noBit l) i so h (le-ltb 1 (get_or l i 0) b)
+  pub look_goes_on : i < length l → get_or l i 0 ≤ 1 → Looked l (i + 1)
+  look_goes_on h b = goes_on (length l) (no_bit l) i so h (le-ltb 1 (get_or l i 0) b)
 
-  pub look-stops : i < length l → 1 < get_or l i 0 → i ≡ firstNoBit l
-  unfolding firstNoBit
-  look-stops h b = stops (length l) (noBit l) i so h (lt-ltb 1 (get_or l i 0) b)
+  pub look_stops : i < length l → 1 < get_or l i 0 → i ≡ first_no_bit l
+  unfolding first_no_bit
+  look_stops h b = stops (length l) (no_bit l) i so h (lt-ltb 1 (get_or l i 0) b)
 
-  pub look-ends : length l ≤ i → i ≡ firstNoBit l
-  unfolding firstNoBit
-  look-ends h = ends (length l) (noBit l) i so h
+  pub look_ends : length l ≤ i → i ≡ first_no_bit l
+  unfolding first_no_bit
+  look_ends h = ends (length l) (no_bit l) i so h
 
-pub no-bit-le : (l : List ℕ) → firstNoBit l ≤ length l
-unfolding firstNoBit
-no-bit-le l = (lowest-is (noBit l) (length l)).inside
+pub no_bit_le : (l : List ℕ) → first_no_bit l ≤ length l
+unfolding first_no_bit
+no_bit_le l = (lowest_is (no_bit l) (length l)).inside
 
 -- all are bits exactly where the search comes to the end
-pub no-bit-none : (l : List ℕ) → AreBits l → firstNoBit l ≡ length l
-unfolding firstNoBit
-no-bit-none l bits = lowest-none (length l) (noBit l) (λ k h. le-ltb 1 (get_or l k 0) (omega (arith, bits k)))
+pub no_bit_none : (l : List ℕ) → AreBits l → first_no_bit l ≡ length l
+unfolding first_no_bit
+no_bit_none l bits = lowest_none (length l) (no_bit l) (λ k h. le-ltb 1 (get_or l k 0) (omega (arith, bits k)))
 
-pub are-bits : (l : List ℕ) → firstNoBit l ≡ length l → AreBits l
-unfolding firstNoBit
-are-bits l e k =
+pub are_bits : (l : List ℕ) → first_no_bit l ≡ length l → AreBits l
+unfolding first_no_bit
+are_bits l e k =
     ⊎_elim
-    (λ (h : k < length l). suc-le-suc (ltb-false 1 (get_or l k 0) ((rw e at (lowest-is (noBit l) (length l)).before) k h)))
+    (λ (h : k < length l). suc-le-suc (ltb-false 1 (get_or l k 0) ((rw e at (lowest_is (no_bit l) (length l)).before) k h)))
     (λ (h : length l ≤ k). rw (get_or-eq_default l 0 {n = k} h) (lit< tt))
-    (lt-or-ge k (length l))
+    (lt_or_ge k (length l))
 
 -- those before the search's answer are bits
-pub bits-before : (l : List ℕ) → AreBits (take (firstNoBit l) l)
-unfolding firstNoBit
-bits-before l k =
+pub bits_before : (l : List ℕ) → AreBits (take (first_no_bit l) l)
+unfolding first_no_bit
+bits_before l k =
     ⊎_elim
-    (λ (h : k < firstNoBit l). rw (get_or-take (firstNoBit l) l k 0 h) (suc-le-suc (ltb-false 1 (get_or l k 0) ((lowest-is (noBit l) (length l)).before k h))))
-    (λ (h : firstNoBit l ≤ k).
-    rw (get_or-eq_default (take (firstNoBit l) l) 0 {n = k} (rw (length-take-le (firstNoBit l) l (no-bit-le l)) h)) (lit< tt))
-    (lt-or-ge k (firstNoBit l))
+    (λ (h : k < first_no_bit l). rw (get_or-take (first_no_bit l) l k 0 h) (suc-le-suc (ltb-false 1 (get_or l k 0) ((lowest_is (no_bit l) (length l)).before k h))))
+    (λ (h : first_no_bit l ≤ k).
+    rw (get_or-eq_default (take (first_no_bit l) l) 0 {n = k} (rw (length-take-le (first_no_bit l) l (no_bit_le l)) h)) (lit< tt))
+    (lt_or_ge k (first_no_bit l))
 
 -- a union is at least each of its parts
 or_right : (a b : ℕ) → b ≤ bit_or a b
@@ -84,5 +84,5 @@ union acc (x ∷ xs) h =
     cons x xs b bits zero = b
     cons x xs b bits (suc k) = bits k
 
-pub union-bits : (l : List ℕ) (all : ℕ) → all ≡ foldl bit_or 0 l → all < 2 → length l ≡ firstNoBit l
-union-bits l all e h = sym (no-bit-none l (union 0 l (rw e at h)).1)
+pub union_bits : (l : List ℕ) (all : ℕ) → all ≡ foldl bit_or 0 l → all < 2 → length l ≡ first_no_bit l
+union_bits l all e h = sym (no_bit_none l (union 0 l (rw e at h)).1)

@@ -9,62 +9,62 @@ use lib.ListN.{set, replicate}
 use borrow.Author.Tests.{lt-ltb, le-ltb}
 use Rattle.base.specs.Lists.{tabulate, lowest}
 use Rattle.base.proofs.Lowest.{Passed, starts, goes_on, stops, ends}
-use Rattle.base.proofs.Fill.{Filled, fill-starts, fill-goes-on, fill-whole}
+use Rattle.base.proofs.Fill.{Filled, fill_starts, fill_goes_on, fill_whole}
 use Rattle.word.specs.declared.Repaired.{Repaired}
 use Rattle.word.specs.declared.Repaired.TheVariants.{Word, Beyond}
-use Rattle.word.specs.Repairs.{isBeyond, word_of, patternOf}
-use Rattle.air.specs.Air.{wordCount}
-use Rattle.air.specs.WordRepairs.{repairAt, firstBeyond, repairedOf, patternsIn, flipsIn, flipTotal, repairWordsOf}
+use Rattle.word.specs.Repairs.{is_beyond, word_of, pattern_of}
+use Rattle.air.specs.Air.{word_count}
+use Rattle.air.specs.WordRepairs.{repair_at, first_beyond, repaired_of, patterns_in, flips_in, flip_total, repair_words_of}
 
 module _ (words : List ℕ) where
-  abbrev beyondAt : ℕ → Bool
-  beyondAt j = isBeyond (repairAt words j)
+  abbrev beyond_at : ℕ → Bool
+  beyond_at j = is_beyond (repair_at words j)
 
-  abbrev wordRepaired : ℕ → ℕ
-  wordRepaired j = word_of (repairAt words j)
+  abbrev word_repaired : ℕ → ℕ
+  word_repaired j = word_of (repair_at words j)
 
-  abbrev patternAt : ℕ → ℕ
-  patternAt j = patternOf (repairAt words j)
+  abbrev pattern_at : ℕ → ℕ
+  pattern_at j = pattern_of (repair_at words j)
 
   -- the words before j are repaired and their patterns kept
   pub record Repairing (j : ℕ) (repaired patterns : List ℕ) : Type 0 where
-    pub passed : Passed wordCount beyondAt j
-    pub filled : Filled wordRepaired wordCount (replicate wordCount 0) j repaired
-    pub patterned : Filled patternAt wordCount (replicate wordCount 0) j patterns
+    pub passed : Passed word_count beyond_at j
+    pub filled : Filled word_repaired word_count (replicate word_count 0) j repaired
+    pub patterned : Filled pattern_at word_count (replicate word_count 0) j patterns
 
-  pub repairs-start : Repairing 0 (replicate wordCount 0) (replicate wordCount 0)
-  repairs-start = record {
-    passed = starts wordCount beyondAt;
-    filled = fill-starts wordRepaired wordCount (replicate wordCount 0) (le_refl wordCount);
-    patterned = fill-starts patternAt wordCount (replicate wordCount 0) (le_refl wordCount);
+  pub repairs_start : Repairing 0 (replicate word_count 0) (replicate word_count 0)
+  repairs_start = record {
+    passed = starts word_count beyond_at;
+    filled = fill_starts word_repaired word_count (replicate word_count 0) (le_refl word_count);
+    patterned = fill_starts pattern_at word_count (replicate word_count 0) (le_refl word_count);
   }
 
   module _ (j : ℕ) (repaired patterns : List ℕ) (so : Repairing j repaired patterns) where
-    module _ (r : Repaired) (v e : ℕ) (h : j < wordCount) (is : r ≡ repairAt words j) (found : r ≡ Word v e) where
-      here : repairAt words j ≡ Word v e
+    module _ (r : Repaired) (v e : ℕ) (h : j < word_count) (is : r ≡ repair_at words j) (found : r ≡ Word v e) where
+      here : repair_at words j ≡ Word v e
       here = sym is ∙ found
 
-      pattern-is : e ≡ patternAt j
-      pattern-is = sym (ap patternOf here)
+      pattern_is : e ≡ pattern_at j
+      pattern_is = sym (ap pattern_of here)
 
-      pub repairs-go-on : Repairing (j + 1) (set repaired j v) (set patterns j e)
-      repairs-go-on = record {
-        passed = goes_on wordCount beyondAt j so.passed h (ap isBeyond here);
-        filled = fill-goes-on wordRepaired wordCount (replicate wordCount 0) j repaired so.filled v h (sym (ap word_of here));
-        patterned = fill-goes-on patternAt wordCount (replicate wordCount 0) j patterns so.patterned e h pattern-is;
+      pub repairs_go_on : Repairing (j + 1) (set repaired j v) (set patterns j e)
+      repairs_go_on = record {
+        passed = goes_on word_count beyond_at j so.passed h (ap is_beyond here);
+        filled = fill_goes_on word_repaired word_count (replicate word_count 0) j repaired so.filled v h (sym (ap word_of here));
+        patterned = fill_goes_on pattern_at word_count (replicate word_count 0) j patterns so.patterned e h pattern_is;
       }
 
-    pub repairs-stop : (r : Repaired) → j < wordCount → r ≡ repairAt words j → r ≡ Beyond
-        → record { words = replicate wordCount 0; patterns = replicate wordCount 0; flips = 0; beyond = j } ≡ repairWordsOf words
-    unfolding repairWordsOf firstBeyond
-    repairs-stop r h is e =
-        let at : j ≡ lowest wordCount beyondAt = stops wordCount beyondAt j so.passed h (ap isBeyond (sym is ∙ e)) in
-        rw (← at, lt-ltb j wordCount h)
+    pub repairs_stop : (r : Repaired) → j < word_count → r ≡ repair_at words j → r ≡ Beyond
+        → record { words = replicate word_count 0; patterns = replicate word_count 0; flips = 0; beyond = j } ≡ repair_words_of words
+    unfolding repair_words_of first_beyond
+    repairs_stop r h is e =
+        let at : j ≡ lowest word_count beyond_at = stops word_count beyond_at j so.passed h (ap is_beyond (sym is ∙ e)) in
+        rw (← at, lt-ltb j word_count h)
 
-    pub repairs-end : (total : ℕ) → wordCount ≤ j → total ≡ flipTotal patterns → record { words = repaired; patterns = patterns; flips = total; beyond = wordCount } ≡ repairWordsOf words
-    unfolding repairWordsOf firstBeyond repairedOf patternsIn flipsIn
-    repairs-end total h flips =
-        let none : j ≡ lowest wordCount beyondAt = ends wordCount beyondAt j so.passed h in
-        let full : repaired ≡ tabulate wordCount wordRepaired = fill-whole wordRepaired wordCount (replicate wordCount 0) j repaired so.filled h refl in
-        let kept : patterns ≡ tabulate wordCount patternAt = fill-whole patternAt wordCount (replicate wordCount 0) j patterns so.patterned h refl in
-        rw (← none, le-ltb j wordCount h, full, flips, kept)
+    pub repairs_end : (total : ℕ) → word_count ≤ j → total ≡ flip_total patterns → record { words = repaired; patterns = patterns; flips = total; beyond = word_count } ≡ repair_words_of words
+    unfolding repair_words_of first_beyond repaired_of patterns_in flips_in
+    repairs_end total h flips =
+        let none : j ≡ lowest word_count beyond_at = ends word_count beyond_at j so.passed h in
+        let full : repaired ≡ tabulate word_count word_repaired = fill_whole word_repaired word_count (replicate word_count 0) j repaired so.filled h refl in
+        let kept : patterns ≡ tabulate word_count pattern_at = fill_whole pattern_at word_count (replicate word_count 0) j patterns so.patterned h refl in
+        rw (← none, le-ltb j word_count h, full, flips, kept)

@@ -3,40 +3,40 @@
 use Rattle.std.specs.Prelude.{ℕ, zero, suc, cond, List, ltb, leb, get_or, replicate}
 use Rattle.base.specs.Lists.{tabulate, sum_to, lowest}
 use Rattle.word.specs.declared.Repaired.{Repaired}
-use Rattle.word.specs.Words.{flipCount}
-use Rattle.word.specs.Repairs.{repairOf, isBeyond, word_of, patternOf}
+use Rattle.word.specs.Words.{flip_count}
+use Rattle.word.specs.Repairs.{repair_of, is_beyond, word_of, pattern_of}
 use Rattle.air.specs.declared.RepairedWords.{RepairedWords}
-use Rattle.air.specs.Air.{wordCount}
+use Rattle.air.specs.Air.{word_count}
 
 -- the answer of repair for word j
-abbrev pub repairAt : List ℕ → ℕ → Repaired
-repairAt words j = repairOf (get_or words j 0)
+abbrev pub repair_at : List ℕ → ℕ → Repaired
+repair_at words j = repair_of (get_or words j 0)
 
 -- the lowest word beyond repair; 14 where there is none
-unfoldable pub firstBeyond : List ℕ → ℕ
-firstBeyond words = lowest wordCount (λ j. isBeyond (repairAt words j))
+unfoldable pub first_beyond : List ℕ → ℕ
+first_beyond words = lowest word_count (λ j. is_beyond (repair_at words j))
 
 -- the valid words that the words become
-unfoldable pub repairedOf : List ℕ → List ℕ
-repairedOf words = tabulate wordCount (λ j. word_of (repairAt words j))
+unfoldable pub repaired_of : List ℕ → List ℕ
+repaired_of words = tabulate word_count (λ j. word_of (repair_at words j))
 
 -- "fourteen patterns": those of the words
-unfoldable pub patternsIn : List ℕ → List ℕ
-patternsIn words = tabulate wordCount (λ j. patternOf (repairAt words j))
+unfoldable pub patterns_in : List ℕ → List ℕ
+patterns_in words = tabulate word_count (λ j. pattern_of (repair_at words j))
 
 -- "the total being their ones"
-abbrev pub flipTotal : List ℕ → ℕ
-flipTotal patterns = sum_to wordCount (λ j. flipCount (get_or patterns j 0))
+abbrev pub flip_total : List ℕ → ℕ
+flip_total patterns = sum_to word_count (λ j. flip_count (get_or patterns j 0))
 
-unfoldable pub flipsIn : List ℕ → ℕ
-flipsIn words = flipTotal (patternsIn words)
+unfoldable pub flips_in : List ℕ → ℕ
+flips_in words = flip_total (patterns_in words)
 
 -- beside a word beyond repair all else is 0
-unfoldable pub repairWordsOf : List ℕ → RepairedWords
-repairWordsOf words =
-    cond (ltb (firstBeyond words) wordCount)
-    (record { words = replicate wordCount 0; patterns = replicate wordCount 0; flips = 0; beyond = firstBeyond words })
-    (record { words = repairedOf words; patterns = patternsIn words; flips = flipsIn words; beyond = wordCount })
+unfoldable pub repair_words_of : List ℕ → RepairedWords
+repair_words_of words =
+    cond (ltb (first_beyond words) word_count)
+    (record { words = replicate word_count 0; patterns = replicate word_count 0; flips = 0; beyond = first_beyond words })
+    (record { words = repaired_of words; patterns = patterns_in words; flips = flips_in words; beyond = word_count })
 
 -- the greatest of f 0, f 1, .. f (n - 1); 0 where there is none
 unfoldable pub greatest : ℕ → (ℕ → ℕ) → ℕ
@@ -44,7 +44,7 @@ greatest zero f = 0
 greatest (suc n) f = cond (ltb (greatest n f) (f n)) (f n) (greatest n f)
 
 -- "the lowest word with the most flips", of fourteen patterns
-unfoldable pub worstOf : List ℕ → ℕ
-worstOf patterns =
-    let flips : ℕ → ℕ = λ j. flipCount (get_or patterns j 0) in
-    lowest wordCount (λ j. leb (greatest wordCount flips) (flips j))
+unfoldable pub worst_of : List ℕ → ℕ
+worst_of patterns =
+    let flips : ℕ → ℕ = λ j. flip_count (get_or patterns j 0) in
+    lowest word_count (λ j. leb (greatest word_count flips) (flips j))

@@ -4,10 +4,10 @@ ghost use mathlib.Core.List.{◌++◌, foldl};
 ghost use Rattle.std.specs.Int.Bits.{bit_or};
 ghost use Rattle.base.specs.Lists.{AreBits};
 ghost use Rattle.word.specs.Repairs.{syndromes};
-ghost use Rattle.word.specs.Words.{positions, flipCount};
-ghost use Rattle.air.specs.Air.{wordCount, airBits, words_of, airOf, firstNoBit};
-ghost use Rattle.air.specs.Lanes.{topPosition, lanesTo, padded, countsOf, laneSum};
-ghost use Rattle.air.specs.WordRepairs.{repairWordsOf, worstOf};
+ghost use Rattle.word.specs.Words.{positions, flip_count};
+ghost use Rattle.air.specs.Air.{word_count, air_bits, words_of, air_of, first_no_bit};
+ghost use Rattle.air.specs.Lanes.{top_position, lanes_to, padded, counts_of, lane_sum};
+ghost use Rattle.air.specs.WordRepairs.{repair_words_of, worst_of};
 
 use word::table::TABLE_ROWS;
 use word::{Repaired, WORD_LIMIT};
@@ -58,7 +58,7 @@ fn union(bytes: &[u8]) -> u8
 
 // The search for the lowest index of an element above 1.
 fn look(bytes: &[u8]) -> usize
-    ensures { result ≡ firstNoBit bytes.now }
+    ensures { result ≡ first_no_bit bytes.now }
 {
     let mut i = 0;
     while i < bytes.len() {
@@ -72,7 +72,7 @@ fn look(bytes: &[u8]) -> usize
 
 // The lowest index of an element above 1, or the length. A test that leaves at each element is slow, so all are or-ed first.
 pub fn first_no_bit(bytes: &[u8]) -> usize
-    ensures { result ≡ firstNoBit bytes.now }
+    ensures { result ≡ first_no_bit bytes.now }
 {
     if union(bytes) < 2 {
         return bytes.len();
@@ -84,7 +84,7 @@ pub fn first_no_bit(bytes: &[u8]) -> usize
 fn with_bit(word: u16, bit: u8, weight: u16) -> u16
     requires word_lt_weight { word < weight }
     requires bit_bound { bit < 2 }
-    requires weight_bound { weight ≤ 2 ^ topPosition }
+    requires weight_bound { weight ≤ 2 ^ top_position }
     ensures { result ≡ word + bit * weight }
 {
     word + bit as u16 * weight
@@ -92,12 +92,12 @@ fn with_bit(word: u16, bit: u8, weight: u16) -> u16
 
 // Position i of each lane, taken in above those below it. The lanes past the words read on into the next position: nobody asks for them.
 fn with_row(lanes: [u16; LANES], air: &[u8], i: usize, weight: u16) -> [u16; LANES]
-    requires air_len { length air.now ≡ airBits }
+    requires air_len { length air.now ≡ air_bits }
     requires are_bits { AreBits air.now }
-    requires i_lt_top_position { i < topPosition }
+    requires i_lt_top_position { i < top_position }
     requires weight_value { weight ≡ 2 ^ i }
-    requires lanes_value { lanes ≡ lanesTo air.now i }
-    ensures { result ≡ lanesTo air.now (i + 1) }
+    requires lanes_value { lanes ≡ lanes_to air.now i }
+    ensures { result ≡ lanes_to air.now (i + 1) }
 {
     let mut next = [0u16; LANES];
     let mut j = 0;
@@ -110,9 +110,9 @@ fn with_row(lanes: [u16; LANES], air: &[u8], i: usize, weight: u16) -> [u16; LAN
 
 // The words without their top position, in lanes.
 fn below_top(air: &[u8]) -> [u16; LANES]
-    requires air_len { length air.now ≡ airBits }
+    requires air_len { length air.now ≡ air_bits }
     requires are_bits { AreBits air.now }
-    ensures { result ≡ lanesTo air.now topPosition }
+    ensures { result ≡ lanes_to air.now top_position }
 {
     let mut lanes = [0u16; LANES];
     let mut weight: u16 = 1;
@@ -128,7 +128,7 @@ fn below_top(air: &[u8]) -> [u16; LANES]
 
 // The fourteen words of a header's air bits. No position follows the top one, so it has no lanes past the words.
 pub fn words(air: &[u8]) -> [u16; WORD_COUNT]
-    requires air_len { length air.now ≡ airBits }
+    requires air_len { length air.now ≡ air_bits }
     requires are_bits { AreBits air.now }
     ensures { result ≡ words_of air.now }
 {
@@ -152,8 +152,8 @@ fn bit(word: u16, i: usize) -> u8
 
 // The words onto the air. What stands past the 210 bits is kept.
 pub fn send(words: [u16; WORD_COUNT], out: &mut [u8])
-    requires { airBits ≤ length out.old }
-    ensures { out.new ≡ airOf words ++ drop airBits out.old }
+    requires { air_bits ≤ length out.old }
+    ensures { out.new ≡ air_of words ++ drop air_bits out.old }
 {
     let mut n = 0;
     while n < AIR_BITS {
@@ -164,7 +164,7 @@ pub fn send(words: [u16; WORD_COUNT], out: &mut [u8])
 
 // The flips of a pattern: its ones at the positions of a word.
 fn count(pattern: u16) -> u16
-    ensures { result ≡ flipCount pattern }
+    ensures { result ≡ flip_count pattern }
 {
     u16::count_ones(pattern % WORD_LIMIT) as u16
 }
@@ -184,7 +184,7 @@ fn in_lanes(patterns: [u16; WORD_COUNT]) -> [u16; LANES]
 
 // The flips of each lane.
 fn count_each(lanes: [u16; LANES]) -> [u16; LANES]
-    ensures { result ≡ countsOf lanes }
+    ensures { result ≡ counts_of lanes }
 {
     let mut counts = [0u16; LANES];
     let mut j = 0;
@@ -197,7 +197,7 @@ fn count_each(lanes: [u16; LANES]) -> [u16; LANES]
 
 // The flips of each pattern, in lanes: one pattern at a time takes three times as long.
 fn counted(patterns: [u16; WORD_COUNT]) -> [u16; LANES]
-    ensures { result ≡ countsOf patterns }
+    ensures { result ≡ counts_of patterns }
 {
     count_each(in_lanes(patterns))
 }
@@ -205,7 +205,7 @@ fn counted(patterns: [u16; WORD_COUNT]) -> [u16; LANES]
 // The sum of counts.
 fn sum(counts: [u16; LANES]) -> u16
     requires { (k : ℕ) → get_or counts k 0 ≤ positions }
-    ensures { result ≡ laneSum counts }
+    ensures { result ≡ lane_sum counts }
 {
     let mut sum: u16 = 0;
     let mut j = 0;
@@ -219,7 +219,7 @@ fn sum(counts: [u16; LANES]) -> u16
 // The repair of fourteen words, by a lent copy of the syndrome table.
 pub fn repair_words(table: &[u16; TABLE_ROWS], words: [u16; WORD_COUNT]) -> RepairedWords
     requires { table.now ≡ syndromes }
-    ensures { result ≡ repairWordsOf words }
+    ensures { result ≡ repair_words_of words }
 {
     let mut repaired = [0u16; WORD_COUNT];
     let mut patterns = [0u16; WORD_COUNT];
@@ -252,8 +252,8 @@ pub fn repair_words(table: &[u16; TABLE_ROWS], words: [u16; WORD_COUNT]) -> Repa
 
 // The lowest word with the most flips, by the counts of its patterns. The patterns themselves are lent for the contract alone.
 fn worst_by(patterns: &[u16; WORD_COUNT], counts: [u16; LANES]) -> usize
-    requires { counts ≡ countsOf patterns.now }
-    ensures { result ≡ worstOf patterns.now }
+    requires { counts ≡ counts_of patterns.now }
+    ensures { result ≡ worst_of patterns.now }
 {
     let mut worst = 0;
     let mut most: u16 = 0;
@@ -273,7 +273,7 @@ fn worst_by(patterns: &[u16; WORD_COUNT], counts: [u16; LANES]) -> usize
 
 // The lowest word with the most flips.
 pub fn worst(patterns: [u16; WORD_COUNT]) -> usize
-    ensures { result ≡ worstOf patterns }
+    ensures { result ≡ worst_of patterns }
 {
     let counts = counted(patterns);
     worst_by(&patterns, counts)

@@ -8,7 +8,7 @@ use native.Mathlib.Omega.{arith}
 use lib.ListN.{length, get_or, set, drop, length-set, drop_of_length-le}
 use lib.Seq.{drop-cons, set_at}
 use Rattle.base.specs.Lists.{tabulate}
-use Rattle.base.proofs.Tabulate.{tabulate-length, tabulate-more}
+use Rattle.base.proofs.Tabulate.{tabulate_length, tabulate_more}
 
 -- the first n of the m elements have become what the rule says; the others of l₀ are as they were
 pub record Filled {A : Type 0} (f : ℕ → A) (m : ℕ) (l₀ : List A) (n : ℕ) (l : List A) : Type 0 where
@@ -18,20 +18,20 @@ pub record Filled {A : Type 0} (f : ℕ → A) (m : ℕ) (l₀ : List A) (n : �
   pub is : l ≡ tabulate n f ++ drop n l₀
 
 module _ {A : Type 0} (f : ℕ → A) (m : ℕ) where
-  pub fill-starts : (l : List A) → m ≤ length l → Filled f m l 0 l
+  pub fill_starts : (l : List A) → m ≤ length l → Filled f m l 0 l
   unfolding tabulate
-  fill-starts l room = record { room = room; inside = zero-le; as_long = refl; is = refl }
+  fill_starts l room = record { room = room; inside = zero-le; as_long = refl; is = refl }
 
   module _ (l₀ : List A) (n : ℕ) (l : List A) (so : Filled f m l₀ n l) where
-    pub fill-ends : m ≤ n → l ≡ tabulate m f ++ drop m l₀
-    fill-ends h = let e : n ≡ m = omega (arith, so.inside) in rw e at so.is
+    pub fill_ends : m ≤ n → l ≡ tabulate m f ++ drop m l₀
+    fill_ends h = let e : n ≡ m = omega (arith, so.inside) in rw e at so.is
 
     -- an array that is filled whole
-    pub fill-whole : m ≤ n → length l₀ ≡ m → l ≡ tabulate m f
-    fill-whole h long = fill-ends h ∙ ap (λ (r : List A). tabulate m f ++ r) (drop_of_length-le l₀ {i = m} (omega (arith, long))) ∙ append-nil (tabulate m f)
+    pub fill_whole : m ≤ n → length l₀ ≡ m → l ≡ tabulate m f
+    fill_whole h long = fill_ends h ∙ ap (λ (r : List A). tabulate m f ++ r) (drop_of_length-le l₀ {i = m} (omega (arith, long))) ∙ append-nil (tabulate m f)
 
-    pub fill-goes-on : (x : A) → n < m → x ≡ f n → Filled f m l₀ (n + 1) (set l n x)
-    fill-goes-on x h e = record { room = so.room; inside = omega arith; as_long = length-set l n x ∙ so.as_long; is = put }
+    pub fill_goes_on : (x : A) → n < m → x ≡ f n → Filled f m l₀ (n + 1) (set l n x)
+    fill_goes_on x h e = record { room = so.room; inside = omega arith; as_long = length-set l n x ∙ so.as_long; is = put }
       where
         put : set l n x ≡ tabulate (n + 1) f ++ drop (n + 1) l₀
-        put = rw (so.is, e, add-one, drop-cons l₀ n (f n) (omega (arith, so.room)), tabulate-more, set_at (tabulate n f) (get_or l₀ n (f n)) (drop (suc n) l₀) (f n) n (tabulate-length f n), append_assoc)
+        put = rw (so.is, e, add-one, drop-cons l₀ n (f n) (omega (arith, so.room)), tabulate_more, set_at (tabulate n f) (get_or l₀ n (f n)) (drop (suc n) l₀) (f n) n (tabulate_length f n), append_assoc)

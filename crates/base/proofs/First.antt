@@ -7,14 +7,14 @@ use Rattle.base.specs.Checks.{Check, first}
 
 module _ {A : Type 0} where
   -- two tables, one after the other: the second is asked where no row of the first applies
-  pub first-append : (other : A) (ks ls : List (Check A)) → first other (ks ++ ls) ≡ first (first other ls) ks
-  first-append other [] ls = refl
-  first-append other (k ∷ ks) ls = ap (cond k.applies k.gives) (first-append other ks ls)
+  pub first_append : (other : A) (ks ls : List (Check A)) → first other (ks ++ ls) ≡ first (first other ls) ks
+  first_append other [] ls = refl
+  first_append other (k ∷ ks) ls = ap (cond k.applies k.gives) (first_append other ks ls)
 
   -- what the table gives, where that is not what it gives when no row applies
-  pub first-stays : (other new a : A) (ks : List (Check A)) → (other ≡ a → ⊥) → first other ks ≡ a → first new ks ≡ a
-  first-stays other new a [] n e = absurd (n e)
-  first-stays other new a (k ∷ ks) n e = by (λ h. first-stays other new a ks n h) k.applies refl
+  pub first_stays : (other new a : A) (ks : List (Check A)) → (other ≡ a → ⊥) → first other ks ≡ a → first new ks ≡ a
+  first_stays other new a [] n e = absurd (n e)
+  first_stays other new a (k ∷ ks) n e = by (λ h. first_stays other new a ks n h) k.applies refl
     where
       by : (first other ks ≡ a → first new ks ≡ a) → (b : Bool) → k.applies ≡ b → first new (k ∷ ks) ≡ a
       by rest true t = rw t (rw t at e)
@@ -31,17 +31,17 @@ module _ {A : Type 0} where
   NoneApplies (k ∷ ks) = (k.applies ≡ false) × NoneApplies ks
 
   -- of two tables none applies exactly when none of either does
-  pub none-split : (ks ls : List (Check A)) → NoneApplies (ks ++ ls) → NoneApplies ks × NoneApplies ls
-  none-split [] ls none = (tt, none)
-  none-split (k ∷ ks) ls none = let rest = none-split ks ls none.1 in ((none.0, rest.0), rest.1)
+  pub none_split : (ks ls : List (Check A)) → NoneApplies (ks ++ ls) → NoneApplies ks × NoneApplies ls
+  none_split [] ls none = (tt, none)
+  none_split (k ∷ ks) ls none = let rest = none_split ks ls none.1 in ((none.0, rest.0), rest.1)
 
   pub none_both : (ks ls : List (Check A)) → NoneApplies ks → NoneApplies ls → NoneApplies (ks ++ ls)
   none_both [] ls none more = more
   none_both (k ∷ ks) ls none more = (none.0, none_both ks ls none.1 more)
 
-  pub first-none : (other : A) (ks : List (Check A)) → NoneApplies ks → first other ks ≡ other
-  first-none other [] none = refl
-  first-none other (k ∷ ks) none = rw none.0 (first-none other ks none.1)
+  pub first_none : (other : A) (ks : List (Check A)) → NoneApplies ks → first other ks ≡ other
+  first_none other [] none = refl
+  first_none other (k ∷ ks) none = rw none.0 (first_none other ks none.1)
 
   -- an answer of no row of two tables is one of neither
   pub never_both : (a : A) (ks ls : List (Check A)) → Never a ks → Never a ls → Never a (ks ++ ls)

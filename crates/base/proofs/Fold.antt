@@ -15,26 +15,26 @@ module _ {A S : Type 0} (f : S → A → S) (start : S) (l : List A) where
     pub inside : i ≤ length l
     pub left : foldl f start l ≡ foldl f state (drop i l)
 
-  pub up-starts : Upward 0 start
-  up-starts = record { inside = zero-le; left = refl }
+  pub up_starts : Upward 0 start
+  up_starts = record { inside = zero-le; left = refl }
 
   -- the elements from i on are in the state, the last first
   pub record Downward (i : ℕ) (state : S) : Type 0 where
     pub inside : i ≤ length l
     pub done : state ≡ foldl f start (reverse (drop i l))
 
-  pub down-starts : Downward (length l) start
-  down-starts = record { inside = le_refl (length l); done = rw drop-length }
+  pub down_starts : Downward (length l) start
+  down_starts = record { inside = le_refl (length l); done = rw drop-length }
 
   module _ (i : ℕ) (state : S) where
-    pub up-goes-on : (d : A) → Upward i state → i < length l → (next : S) → next ≡ f state (get_or l i d) → Upward (i + 1) next
-    up-goes-on d so h next e = record { inside = omega arith; left = so.left ∙ rw (drop-cons l i d h, add-one, e) }
+    pub up_goes_on : (d : A) → Upward i state → i < length l → (next : S) → next ≡ f state (get_or l i d) → Upward (i + 1) next
+    up_goes_on d so h next e = record { inside = omega arith; left = so.left ∙ rw (drop-cons l i d h, add-one, e) }
 
     pub up_ends : Upward i state → length l ≤ i → state ≡ foldl f start l
     up_ends so h = sym (so.left ∙ ap (foldl f state) (drop_of_length-le l {i = i} h))
 
-    pub down-goes-on : (d : A) → Downward i state → 0 < i → (next : S) → next ≡ f state (get_or l (i - 1) d) → Downward (i - 1) next
-    down-goes-on d so h next e =
+    pub down_goes_on : (d : A) → Downward i state → 0 < i → (next : S) → next ≡ f state (get_or l (i - 1) d) → Downward (i - 1) next
+    down_goes_on d so h next e =
         let lt : i - 1 < length l = omega (arith, so.inside) in
         let again : suc (i - 1) ≡ i = omega arith in
         record { inside = omega arith; done = rw (drop-cons l (i - 1) d lt, again, reverse-cons, foldl-append, e, so.done) }

@@ -8,16 +8,16 @@ use lib.Dec.{ltb, eqb}
 use borrow.Author.Tests.{eqb-true, eqb-false, not-false, ltb-true, ltb-false, lt-ltb, le-ltb, le-leb, lt-leb, eq-eqb, ne_eqb}
 
 -- a test for a difference, and what it says where it fails
-pub differs-not : (a b : ℕ) → a ≡ b → not (eqb a b) ≡ false
-differs-not a b e = rw (eq-eqb a b e)
+pub differs_not : (a b : ℕ) → a ≡ b → not (eqb a b) ≡ false
+differs_not a b e = rw (eq-eqb a b e)
 
-pub not-differs : (a b : ℕ) → not (eqb a b) ≡ false → a ≡ b
-not-differs a b e = eqb-true a b (not-false (eqb a b) e)
+pub not_differs : (a b : ℕ) → not (eqb a b) ≡ false → a ≡ b
+not_differs a b e = eqb-true a b (not-false (eqb a b) e)
 
 pub ruleset tests = (lt-ltb, le-ltb, le-leb, lt-leb, eq-eqb, ne_eqb)
 
-pub lt-or-ge : (m n : ℕ) → (m < n) ⊎ (n ≤ m)
-lt-or-ge m n = go (ltb m n) refl
+pub lt_or_ge : (m n : ℕ) → (m < n) ⊎ (n ≤ m)
+lt_or_ge m n = go (ltb m n) refl
   where
     go : (b : Bool) → ltb m n ≡ b → (m < n) ⊎ (n ≤ m)
     go true e = inl (ltb-true m n e)

@@ -17,131 +17,131 @@ use Rattle.base.specs.declared.Written.TheVariants.{Done, Refused}
 use Rattle.base.proofs.Tests.{same_or_not}
 use Rattle.layout.specs.Bits.{bit_at, AreBytes}
 use Rattle.layout.specs.Rows.{row_in, HasValues, Outside}
-use Rattle.layout.proofs.Values.{put-bytes, put-outside}
-use Rattle.beesat.specs.Tables.{frameBytes, rows, fieldCount, fixedFrom, fixedValues, markerFrom, markerValues, errorAt}
-use Rattle.beesat.specs.Reading.{fieldIn, errorOf, apidField, idleApid, isIdle, headerIn, noData, shownField, read_of}
+use Rattle.layout.proofs.Values.{put_bytes, put_outside}
+use Rattle.beesat.specs.Tables.{frame_bytes, rows, field_count, fixed_from, fixed_values, marker_from, marker_values, error_at}
+use Rattle.beesat.specs.Reading.{field_in, error_of, apid_field, idle_apid, is_idle, header_in, no_data, shown_field, read_of}
 use Rattle.beesat.specs.Accepting.{Accepts}
-use Rattle.beesat.specs.Writing.{with_row, renewed, writeFieldOf, afterField, FieldWritten}
-use Rattle.beesat.specs.Inside.{width_of, goodRead}
+use Rattle.beesat.specs.Writing.{with_row, renewed, write_field_of, after_field, FieldWritten}
+use Rattle.beesat.specs.Inside.{width_of, good_read}
 use Rattle.beesat.specs.declared.Answer.TheVariants.{Idle}
 use Rattle.beesat.specs.declared.reading.Verdict.TheVariants.{Good}
-use Rattle.beesat.proofs.Passed.{Passed, passed-good}
-use Rattle.beesat.proofs.WriteChecks.{gives-38-idle}
+use Rattle.beesat.proofs.Passed.{Passed, passed_good}
+use Rattle.beesat.proofs.WriteChecks.{gives_38_idle}
 use Rattle.beesat.proofs.Writable.{Writable, writable, writes}
-use Rattle.beesat.proofs.Accepted.{passed-accepts, accepts-passed, good-read}
-use Rattle.beesat.proofs.Renewed.{with-long, with-back, with-other, with-same, renewed-long, renewed-bytes, renewed-summed, renewed-other, renewed-outside, renewed-same}
-use Rattle.beesat.proofs.Fields.{dataCount, packet-shows, idle-shows, idle-hides}
+use Rattle.beesat.proofs.Accepted.{passed_accepts, accepts_passed, good_read_lem}
+use Rattle.beesat.proofs.Renewed.{with_long, with_back, with_other, with_same, renewed_long, renewed_bytes, renewed_summed, renewed_other, renewed_outside, renewed_same}
+use Rattle.beesat.proofs.Fields.{data_count, packet_shows, idle_shows, idle_hides}
 
 -- THE WRITTEN FRAME, of a frame that may be written
 module _ (frame : List ℕ) (field value : ℕ) (may : Writable frame field value) where
   abbrev pub next : List ℕ
   next = renewed (with_row field value frame)
 
-  long : length frame ≡ frameBytes
-  long = may.frame-passed.long
+  long : length frame ≡ frame_bytes
+  long = may.frame_passed.long
 
-  put-long : length (with_row field value frame) ≡ frameBytes
-  put-long = with-long frame long field value (omega (arith, may.there))
+  put_long : length (with_row field value frame) ≡ frame_bytes
+  put_long = with_long frame long field value (omega (arith, may.there))
 
-  put-are-bytes : AreBytes (with_row field value frame)
-  put-are-bytes = put-bytes (row_in rows field) value frame
+  put_are_bytes : AreBytes (with_row field value frame)
+  put_are_bytes = put_bytes (row_in rows field) value frame
 
-  pub next-long : length next ≡ frameBytes
-  next-long = renewed-long (with_row field value frame) put-long put-are-bytes
+  pub next_long : length next ≡ frame_bytes
+  next_long = renewed_long (with_row field value frame) put_long put_are_bytes
 
-  pub next-bytes : AreBytes next
-  next-bytes = renewed-bytes (with_row field value frame) put-long put-are-bytes
+  pub next_bytes : AreBytes next
+  next_bytes = renewed_bytes (with_row field value frame) put_long put_are_bytes
 
-  pub next_field : fieldIn next field ≡ value
+  pub next_field : field_in next field ≡ value
   next_field =
-      renewed-other (with_row field value frame) put-long put-are-bytes field (omega (arith, may.there))
-      ∙ with-back frame long field value (omega (arith, may.there)) may.within
+      renewed_other (with_row field value frame) put_long put_are_bytes field (omega (arith, may.there))
+      ∙ with_back frame long field value (omega (arith, may.there)) may.within
 
-  pub next-other : (k : ℕ) → k < errorAt → (k ≡ field → ⊥) → fieldIn next k ≡ fieldIn frame k
-  next-other k h other =
-      renewed-other (with_row field value frame) put-long put-are-bytes k h
-      ∙ with-other frame long field value (omega (arith, may.there)) k (omega arith) other
+  pub next_other : (k : ℕ) → k < error_at → (k ≡ field → ⊥) → field_in next k ≡ field_in frame k
+  next_other k h other =
+      renewed_other (with_row field value frame) put_long put_are_bytes k h
+      ∙ with_other frame long field value (omega (arith, may.there)) k (omega arith) other
 
   -- rows that are no fields keep their values
-  next-values : (k : ℕ) (vs : List ℕ) → fieldCount ≤ k → k + length vs ≤ errorAt → HasValues rows k vs frame → HasValues rows k vs next
-  unfolding fieldIn
-  next-values k vs from to has i h =
-      next-other (k + i) (omega arith) (λ (e : k + i ≡ field). omega (arith, may.there)) ∙ has i h
+  next_values : (k : ℕ) (vs : List ℕ) → field_count ≤ k → k + length vs ≤ error_at → HasValues rows k vs frame → HasValues rows k vs next
+  unfolding field_in
+  next_values k vs from to has i h =
+      next_other (k + i) (omega arith) (λ (e : k + i ≡ field). omega (arith, may.there)) ∙ has i h
 
-  pub next-accepts : Accepts next
-  next-accepts =
-      let so = passed-accepts frame may.frame-passed in
+  pub next_accepts : Accepts next
+  next_accepts =
+      let so = passed_accepts frame may.frame_passed in
       record {
-        long = next-long;
-        marker-same = next-values markerFrom markerValues (omega arith) (omega arith) so.marker-same;
-        summed = renewed-summed (with_row field value frame) put-long put-are-bytes;
-        printed = next-values fixedFrom fixedValues (omega arith) (omega arith) so.printed;
+        long = next_long;
+        marker_same = next_values marker_from marker_values (omega arith) (omega arith) so.marker_same;
+        summed = renewed_summed (with_row field value frame) put_long put_are_bytes;
+        printed = next_values fixed_from fixed_values (omega arith) (omega arith) so.printed;
       }
 
-  pub next-passed : Passed next
-  next-passed = accepts-passed next next-bytes next-accepts
+  pub next_passed : Passed next
+  next_passed = accepts_passed next next_bytes next_accepts
 
   -- writing 0x7FF into APID makes it idle, and nothing else does
-  pub next-idle : field ≡ apidField → value ≡ idleApid → isIdle next ≡ true
-  next-idle e is = eq-eqb (fieldIn next apidField) idleApid (sym (ap (fieldIn next) e) ∙ next_field ∙ is)
+  pub next_idle : field ≡ apid_field → value ≡ idle_apid → is_idle next ≡ true
+  next_idle e is = eq-eqb (field_in next apid_field) idle_apid (sym (ap (field_in next) e) ∙ next_field ∙ is)
 
-  pub next-packet : (field ≡ apidField → value ≡ idleApid → ⊥) → isIdle next ≡ false
-  next-packet other =
+  pub next_packet : (field ≡ apid_field → value ≡ idle_apid → ⊥) → is_idle next ≡ false
+  next_packet other =
       ⊎_elim
-      (λ (e : field ≡ apidField).
-      ne_eqb (fieldIn next apidField) idleApid (λ (q : fieldIn next apidField ≡ idleApid). other e (sym next_field ∙ ap (fieldIn next) e ∙ q)))
-      (λ (n : field ≡ apidField → ⊥).
-      ap (λ (apid : ℕ). eqb apid idleApid) (next-other apidField (omega arith) (λ (e : apidField ≡ field). n (sym e))) ∙ may.packet)
-      (same_or_not field apidField)
+      (λ (e : field ≡ apid_field).
+      ne_eqb (field_in next apid_field) idle_apid (λ (q : field_in next apid_field ≡ idle_apid). other e (sym next_field ∙ ap (field_in next) e ∙ q)))
+      (λ (n : field ≡ apid_field → ⊥).
+      ap (λ (apid : ℕ). eqb apid idle_apid) (next_other apid_field (omega arith) (λ (e : apid_field ≡ field). n (sym e))) ∙ may.packet)
+      (same_or_not field apid_field)
 
   -- a field as it is then
-  next-is : (k : ℕ) → k < fieldCount → fieldIn next k ≡ cond (eqb k field) value (fieldIn frame k)
-  next-is k h =
+  next_is : (k : ℕ) → k < field_count → field_in next k ≡ cond (eqb k field) value (field_in frame k)
+  next_is k h =
       ⊎_elim
-      (λ (e : k ≡ field). rw (eq-eqb k field e) (ap (fieldIn next) e ∙ next_field))
-      (λ (n : k ≡ field → ⊥). rw (ne_eqb k field n) (next-other k (omega arith) n))
+      (λ (e : k ≡ field). rw (eq-eqb k field e) (ap (field_in next) e ∙ next_field))
+      (λ (n : k ≡ field → ⊥). rw (ne_eqb k field n) (next_other k (omega arith) n))
       (same_or_not k field)
 
   -- as the reader shows it
-  before-shows : (k : ℕ) → k < fieldCount → shownField (read_of frame) k ≡ fieldIn frame k
-  before-shows k h = rw (← (good-read frame may.frame-passed)) (packet-shows frame may.packet k h)
+  before_shows : (k : ℕ) → k < field_count → shown_field (read_of frame) k ≡ field_in frame k
+  before_shows k h = rw (← (good_read_lem frame may.frame_passed)) (packet_shows frame may.packet k h)
 
-  shown-rule : (k : ℕ) → k < fieldCount → fieldIn next k ≡ cond (eqb k field) value (shownField (read_of frame) k)
-  shown-rule k h = next-is k h ∙ ap (cond (eqb k field) value) (sym (before-shows k h))
+  shown_rule : (k : ℕ) → k < field_count → field_in next k ≡ cond (eqb k field) value (shown_field (read_of frame) k)
+  shown_rule k h = next_is k h ∙ ap (cond (eqb k field) value) (sym (before_shows k h))
 
-  pub next-shows : (field ≡ apidField → value ≡ idleApid → ⊥) → (k : ℕ) → k < fieldCount → shownField (read_of next) k ≡ cond (eqb k field) value (shownField (read_of frame) k)
-  next-shows other k h = rw (← (good-read next next-passed)) (packet-shows next (next-packet other) k h) ∙ shown-rule k h
+  pub next_shows : (field ≡ apid_field → value ≡ idle_apid → ⊥) → (k : ℕ) → k < field_count → shown_field (read_of next) k ≡ cond (eqb k field) value (shown_field (read_of frame) k)
+  next_shows other k h = rw (← (good_read_lem next next_passed)) (packet_shows next (next_packet other) k h) ∙ shown_rule k h
 
-  pub next-shows-idle : field ≡ apidField → value ≡ idleApid → (k : ℕ) → dataCount ≤ k → k < fieldCount → shownField (read_of next) k ≡ cond (eqb k field) value (shownField (read_of frame) k)
-  next-shows-idle e is k from h = rw (← (good-read next next-passed)) (idle-shows next (next-idle e is) k from h) ∙ shown-rule k h
+  pub next_shows_idle : field ≡ apid_field → value ≡ idle_apid → (k : ℕ) → data_count ≤ k → k < field_count → shown_field (read_of next) k ≡ cond (eqb k field) value (shown_field (read_of frame) k)
+  next_shows_idle e is k from h = rw (← (good_read_lem next next_passed)) (idle_shows next (next_idle e is) k from h) ∙ shown_rule k h
 
-  pub next-hides : field ≡ apidField → value ≡ idleApid → (k : ℕ) → k < dataCount → shownField (read_of next) k ≡ 0
-  next-hides e is k h = rw (← (good-read next next-passed)) (idle-hides next (next-idle e is) k h)
+  pub next_hides : field ≡ apid_field → value ≡ idle_apid → (k : ℕ) → k < data_count → shown_field (read_of next) k ≡ 0
+  next_hides e is k h = rw (← (good_read_lem next next_passed)) (idle_hides next (next_idle e is) k h)
 
-  pub next-answers-idle : field ≡ apidField → value ≡ idleApid → (read_of next).answer ≡ Idle (headerIn next)
-  unfolding goodRead
-  next-answers-idle e is = rw (← (good-read next next-passed), next-idle e is)
+  pub next_answers_idle : field ≡ apid_field → value ≡ idle_apid → (read_of next).answer ≡ Idle (header_in next)
+  unfolding good_read
+  next_answers_idle e is = rw (← (good_read_lem next next_passed), next_idle e is)
 
   -- the same write again
-  pub next-again : renewed (with_row field value next) ≡ next
-  next-again =
-      let same : with_row field value next ≡ next = ap (λ (v : ℕ). with_row field v next) (sym next_field) ∙ with-same next next-long next-bytes field (omega (arith, may.there)) in
-      ap renewed same ∙ renewed-same next next-long next-bytes next-accepts.summed
+  pub next_again : renewed (with_row field value next) ≡ next
+  next_again =
+      let same : with_row field value next ≡ next = ap (λ (v : ℕ). with_row field v next) (sym next_field) ∙ with_same next next_long next_bytes field (omega (arith, may.there)) in
+      ap renewed same ∙ renewed_same next next_long next_bytes next_accepts.summed
 
-  pub next-writable : (field ≡ apidField → value ≡ idleApid → ⊥) → Writable next field value
-  next-writable other = record { frame-passed = next-passed; there = may.there; packet = next-packet other; within = may.within }
+  pub next_writable : (field ≡ apid_field → value ≡ idle_apid → ⊥) → Writable next field value
+  next_writable other = record { frame_passed = next_passed; there = may.there; packet = next_packet other; within = may.within }
 
-  pub next-refuses : field ≡ apidField → value ≡ idleApid → writeFieldOf next field value ≡ Refused (refusal 38 field)
-  next-refuses e is =
-      sym (gives-38-idle next field value Good (sym (passed-good next next-passed)) refl may.there true (sym (next-idle e is)) (Refused (refusal 38 field)) refl refl)
+  pub next_refuses : field ≡ apid_field → value ≡ idle_apid → write_field_of next field value ≡ Refused (refusal 38 field)
+  next_refuses e is =
+      sym (gives_38_idle next field value Good (sym (passed_good next next_passed)) refl may.there true (sym (next_idle e is)) (Refused (refusal 38 field)) refl refl)
 
   -- every bit outside the field and the error field
-  pub next-outside : (i : ℕ) → Outside (row_in rows field) i → Outside (row_in rows errorAt) i → bit_at next i ≡ bit_at frame i
-  next-outside i out error-out =
-      renewed-outside (with_row field value frame) put-long put-are-bytes i error-out ∙ put-outside (row_in rows field) value frame i out
+  pub next_outside : (i : ℕ) → Outside (row_in rows field) i → Outside (row_in rows error_at) i → bit_at next i ≡ bit_at frame i
+  next_outside i out error-out =
+      renewed_outside (with_row field value frame) put_long put_are_bytes i error-out ∙ put_outside (row_in rows field) value frame i out
 
 -- the value that is there
-pub same-value : (frame : List ℕ) (field : ℕ) → AreBytes frame → Writable frame field (fieldIn frame field) → renewed (with_row field (fieldIn frame field) frame) ≡ frame
-same-value frame field bytes may =
-    let long = may.frame-passed.long in
-    ap renewed (with-same frame long bytes field (omega (arith, may.there))) ∙ renewed-same frame long bytes (sym may.frame-passed.summed)
+pub same_value : (frame : List ℕ) (field : ℕ) → AreBytes frame → Writable frame field (field_in frame field) → renewed (with_row field (field_in frame field) frame) ≡ frame
+same_value frame field bytes may =
+    let long = may.frame_passed.long in
+    ap renewed (with_same frame long bytes field (omega (arith, may.there))) ∙ renewed_same frame long bytes (sym may.frame_passed.summed)

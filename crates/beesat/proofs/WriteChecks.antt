@@ -11,45 +11,45 @@ use Rattle.base.specs.declared.Refusal.{Refusal}
 use Rattle.base.specs.declared.Written.{Written}
 use Rattle.base.specs.declared.Written.TheVariants.{Done, Refused}
 use Rattle.layout.specs.Rows.{row_in}
-use Rattle.beesat.specs.Tables.{rows, fieldCount}
-use Rattle.beesat.specs.Reading.{isIdle}
-use Rattle.beesat.specs.Writing.{no_field, tooLarge, writeFieldOf}
-use Rattle.beesat.specs.Inside.{width_of, verdictOf}
+use Rattle.beesat.specs.Tables.{rows, field_count}
+use Rattle.beesat.specs.Reading.{is_idle}
+use Rattle.beesat.specs.Writing.{no_field, too_large, write_field_of}
+use Rattle.beesat.specs.Inside.{width_of, verdict_of}
 use Rattle.beesat.specs.declared.reading.Verdict.{Verdict}
 use Rattle.beesat.specs.declared.reading.Verdict.TheVariants.{Good, Refused as NotGood}
-use Rattle.beesat.proofs.Verdicts.{byVerdict, then-checks}
+use Rattle.beesat.proofs.Verdicts.{by_verdict, then_checks}
 
-module _ (frame : List ℕ) (field value : ℕ) (v : Verdict) (is : v ≡ verdictOf frame) where
+module _ (frame : List ℕ) (field value : ℕ) (v : Verdict) (is : v ≡ verdict_of frame) where
   abbrev rest : Written
-  rest = first Done (no_field frame field ∷ tooLarge field value ∷ [])
+  rest = first Done (no_field frame field ∷ too_large field value ∷ [])
 
-  write-by : byVerdict Refused rest v ≡ writeFieldOf frame field value
-  unfolding writeFieldOf
-  write-by = ap (byVerdict Refused rest) is ∙ sym (then-checks Refused frame Done (no_field frame field ∷ tooLarge field value ∷ []))
+  write_by : by_verdict Refused rest v ≡ write_field_of frame field value
+  unfolding write_field_of
+  write_by = ap (by_verdict Refused rest) is ∙ sym (then_checks Refused frame Done (no_field frame field ∷ too_large field value ∷ []))
 
-  pub write-refused : (why : Refusal) → v ≡ NotGood why → Refused why ≡ writeFieldOf frame field value
-  write-refused why refused = rw refused at write-by
+  pub write_refused : (why : Refusal) → v ≡ NotGood why → Refused why ≡ write_field_of frame field value
+  write_refused why refused = rw refused at write_by
 
   module _ (good : v ≡ Good) where
-    past-28 : rest ≡ writeFieldOf frame field value
-    past-28 = rw good at write-by
+    past_28 : rest ≡ write_field_of frame field value
+    past_28 = rw good at write_by
 
-    pub gives-38 : (r : Written) → r ≡ Refused (refusal 38 field) → fieldCount ≤ field → r ≡ writeFieldOf frame field value
-    gives-38 r made h = made ∙ rw (← past-28, le-leb fieldCount field h)
+    pub gives_38 : (r : Written) → r ≡ Refused (refusal 38 field) → field_count ≤ field → r ≡ write_field_of frame field value
+    gives_38 r made h = made ∙ rw (← past_28, le-leb field_count field h)
 
-    module _ (there : field < fieldCount) (idle : Bool) (test : idle ≡ isIdle frame) where
-      pub gives-38-idle : (r : Written) → r ≡ Refused (refusal 38 field) → idle ≡ true → r ≡ writeFieldOf frame field value
-      gives-38-idle r made so = let e : isIdle frame ≡ true = sym test ∙ so in made ∙ rw (← past-28, lt-leb fieldCount field there, e)
+    module _ (there : field < field_count) (idle : Bool) (test : idle ≡ is_idle frame) where
+      pub gives_38_idle : (r : Written) → r ≡ Refused (refusal 38 field) → idle ≡ true → r ≡ write_field_of frame field value
+      gives_38_idle r made so = let e : is_idle frame ≡ true = sym test ∙ so in made ∙ rw (← past_28, lt-leb field_count field there, e)
 
       module _ (packet : idle ≡ false) (table : List ℕ) (copied : table ≡ rows) (fits : Bool) (within : fits ≡ ltb value (2 ^ (row_in table field).width)) where
-        past-38 : first Done (tooLarge field value ∷ []) ≡ writeFieldOf frame field value
-        past-38 = let e : isIdle frame ≡ false = sym test ∙ packet in rw (← past-28, lt-leb fieldCount field there, e)
+        past_38 : first Done (too_large field value ∷ []) ≡ write_field_of frame field value
+        past_38 = let e : is_idle frame ≡ false = sym test ∙ packet in rw (← past_28, lt-leb field_count field there, e)
 
         own : fits ≡ ltb value (2 ^ width_of field)
         own = rw copied at within
 
-        pub gives-29 : (r : Written) → r ≡ Refused (refusal 29 value) → not fits ≡ true → r ≡ writeFieldOf frame field value
-        gives-29 r made so = made ∙ rw (← past-38, le-leb (2 ^ width_of field) value (ltb-false value (2 ^ width_of field) (sym own ∙ not-true fits so)))
+        pub gives_29 : (r : Written) → r ≡ Refused (refusal 29 value) → not fits ≡ true → r ≡ write_field_of frame field value
+        gives_29 r made so = made ∙ rw (← past_38, le-leb (2 ^ width_of field) value (ltb-false value (2 ^ width_of field) (sym own ∙ not-true fits so)))
 
-        pub may_write : not fits ≡ false → Done ≡ writeFieldOf frame field value
-        may_write so = rw (← past-38, lt-leb (2 ^ width_of field) value (ltb-true value (2 ^ width_of field) (sym own ∙ not-false fits so)))
+        pub may_write : not fits ≡ false → Done ≡ write_field_of frame field value
+        may_write so = rw (← past_38, lt-leb (2 ^ width_of field) value (ltb-true value (2 ^ width_of field) (sym own ∙ not-false fits so)))

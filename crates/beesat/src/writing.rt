@@ -3,7 +3,7 @@ ghost use Rattle.std.specs.Prelude.{◌≡◌};
 ghost use Rattle.base.specs.Checks.{refusal};
 ghost use Rattle.base.specs.declared.Written.TheVariants.{Refused};
 ghost use Rattle.beesat.specs.Tables.{rows};
-ghost use Rattle.beesat.specs.Writing.{with_row, renewed, writeFieldOf, FieldWritten};
+ghost use Rattle.beesat.specs.Writing.{with_row, renewed, write_field_of, FieldWritten};
 ghost use Rattle.beesat.specs.Inside.{MayPut};
 
 use crate::reading::{ERROR_AT, Verdict, error_of, is_idle, judge};
@@ -22,7 +22,7 @@ fn refused(number: u8, place: usize) -> Written
 // Whether a field may be written, by a lent copy of the table.
 fn allowed(table: &[u16], frame: &[u8], field: u32, value: u32) -> Written
     requires { table.now ≡ rows }
-    ensures { result ≡ writeFieldOf frame.now field value }
+    ensures { result ≡ write_field_of frame.now field value }
 {
     match judge(table, frame) {
         Verdict::Good => {}

@@ -2,5 +2,5 @@
 -- Assumes nothing.
 use Rattle.std.specs.Prelude.{ℕ}
 
-abbrev pub bufferBytes : ℕ
-bufferBytes = 8192
+abbrev pub buffer_bytes : ℕ
+buffer_bytes = 8192

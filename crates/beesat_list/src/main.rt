@@ -1,6 +1,6 @@
 // Lists the frames of BEESAT-1 on standard input, after each read. It moves bytes and does nothing else: the text is that of `beesat_listing`.
 ghost use Rattle.std.specs.Prelude.{◌≡◌, ◌*◌, ◌≤◌, length};
-ghost use Rattle.beesat_list.specs.Sizes.{bufferBytes};
+ghost use Rattle.beesat_list.specs.Sizes.{buffer_bytes};
 
 use streams::{is_done, read_on, send, turns_left, write};
 
@@ -12,8 +12,8 @@ const MOST_TURNS: u64 = 0x2_0000_0000_0000;
 
 // Lists the input, read by read. Where a read or a write fails, the lines up to there are written, and no last line.
 fn list(buf: &mut [u8], out: &mut [u8])
-    requires buf_len { length buf.old ≡ bufferBytes }
-    requires buffer_bytes_in_bounds { 8 * bufferBytes ≤ length out.old }
+    requires buf_len { length buf.old ≡ buffer_bytes }
+    requires buffer_bytes_in_bounds { 8 * buffer_bytes ≤ length out.old }
 {
     let opened = beesat_listing::open(out);
     let title = opened.to;

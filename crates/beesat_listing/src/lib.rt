@@ -3,11 +3,11 @@ mod frame_lines;
 
 ghost use Rattle.std.specs.Prelude.{◌+◌, ◌*◌, ◌<◌, ◌≤◌, ◌^◌, length};
 ghost use Rattle.text.specs.Text.{Put};
-ghost use Rattle.walk.specs.Walks.{waiting, cutWith};
+ghost use Rattle.walk.specs.Walks.{waiting, cut_with};
 ghost use Rattle.walk.specs.Scans.{Scanned, Turned};
-ghost use Rattle.beesat_listing.specs.Counting.{heardOf};
-ghost use Rattle.beesat_listing.specs.Lines.{closingOf, lineRoom};
-ghost use Rattle.beesat_listing.specs.Listing.{frameWalk};
+ghost use Rattle.beesat_listing.specs.Counting.{heard_of};
+ghost use Rattle.beesat_listing.specs.Lines.{closing_of, line_room};
+ghost use Rattle.beesat_listing.specs.Listing.{frame_walk};
 ghost use Rattle.beesat_listing.specs.Promises.{Opens, Takes};
 
 use beesat::FRAME_BYTES;
@@ -46,7 +46,7 @@ pub struct Listed {
 
 // Opens a listing: puts the first line.
 pub fn open(out: &mut [u8]) -> Opened
-    requires { lineRoom ≤ length out.old }
+    requires { line_room ≤ length out.old }
     ensures { Opens out.old out.new result }
 {
     let to = put_title(out);
@@ -62,8 +62,8 @@ pub fn open(out: &mut [u8]) -> Opened
 
 // Reads a frame, and puts its line into `out` at `to`.
 fn take_frame(counts: Counts, frame: &[u8], out: &mut [u8], to: usize) -> Taken
-    requires counts_bound { heardOf counts + 1 < 2 ^ 64 }
-    requires line_room_in_bounds { to + lineRoom ≤ length out.old }
+    requires counts_bound { heard_of counts + 1 < 2 ^ 64 }
+    requires line_room_in_bounds { to + line_room ≤ length out.old }
     ensures { Takes counts frame.now out.old to out.new result }
 {
     let read = beesat::read_frame(frame);
@@ -77,9 +77,9 @@ fn take_frame(counts: Counts, frame: &[u8], out: &mut [u8], to: usize) -> Taken
 
 // All whole frames of a piece: their lines go into `out` from `at` on. A line takes at most eight bytes for each byte of its frame.
 pub fn list_frames(start: Counts, piece: &[u8], out: &mut [u8], at: usize) -> Listed
-    requires piece_bound { heardOf start + length piece.now < 2 ^ 64 }
+    requires piece_bound { heard_of start + length piece.now < 2 ^ 64 }
     requires piece_in_bounds { at + 8 * length piece.now ≤ length out.old }
-    ensures { Scanned frameWalk 8 start piece.now out.old at out.new result.counts result.left result.to waiting }
+    ensures { Scanned frame_walk 8 start piece.now out.old at out.new result.counts result.left result.to waiting }
 {
     let mut counts = start;
     let mut used = 0;
@@ -97,10 +97,10 @@ pub fn list_frames(start: Counts, piece: &[u8], out: &mut [u8], at: usize) -> Li
 
 // The first `end` bytes of a buffer: the lines of their frames go into `out`, and what is left goes to the buffer's front.
 pub fn list_piece(counts: Counts, buf: &mut [u8], end: usize, out: &mut [u8]) -> Listed
-    requires end_bound { heardOf counts + end < 2 ^ 64 }
+    requires end_bound { heard_of counts + end < 2 ^ 64 }
     requires end_in_bounds { end ≤ length buf.old }
     requires end_in_bounds_2 { 8 * end ≤ length out.old }
-    ensures { Turned frameWalk 8 counts buf.old end out.old buf.new out.new result.counts result.left result.to waiting }
+    ensures { Turned frame_walk 8 counts buf.old end out.old buf.new out.new result.counts result.left result.to waiting }
 {
     let listed = list_frames(counts, &buf[..end], out, 0);
     let left = listed.left;
@@ -110,9 +110,9 @@ pub fn list_piece(counts: Counts, buf: &mut [u8], end: usize, out: &mut [u8]) ->
 
 // Closes a listing: puts the last line, after `cut` where bytes are left.
 pub fn close(counts: Counts, left: usize, out: &mut [u8]) -> usize
-    requires counts_bound { heardOf counts < 2 ^ 64 }
-    requires line_room_in_bounds { 2 * lineRoom ≤ length out.old }
-    ensures { Put out.old 0 (closingOf counts (cutWith left)) out.new result }
+    requires counts_bound { heard_of counts < 2 ^ 64 }
+    requires line_room_in_bounds { 2 * line_room ≤ length out.old }
+    ensures { Put out.old 0 (closing_of counts (cut_with left)) out.new result }
 {
     put_closing(out, 0, counts, 0 < left)
 }

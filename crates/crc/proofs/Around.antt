@@ -11,24 +11,24 @@ use lib.Dec.{lit<}
 use lib.ListN.{length, get_or, replicate}
 use lib.Pow.{pow_mono, pow_pos}
 use Rattle.base.specs.Lists.{AreBits, tabulate}
-use Rattle.base.proofs.Tests.{lt-or-ge}
-use Rattle.base.proofs.Tabulate.{tabulate-at, read-replicated}
-use Rattle.crc.specs.Crc.{crcStep, crcOf, bitsOfBytes, poly13}
-use Rattle.crc.specs.Around.{aroundBytes}
-use Rattle.crc.proofs.Linear.{crc-linear}
-use Rattle.crc.proofs.Loop.{crc-append}
+use Rattle.base.proofs.Tests.{lt_or_ge}
+use Rattle.base.proofs.Tabulate.{tabulate_at, read_replicated}
+use Rattle.crc.specs.Crc.{crc_step, crc_of, bits_of_bytes, poly13}
+use Rattle.crc.specs.Around.{around_bytes}
+use Rattle.crc.proofs.Linear.{crc_linear}
+use Rattle.crc.proofs.Loop.{crc_append}
 
 abbrev pub zeros : ℕ → List ℕ
 zeros n = replicate n 0
 
-pub are-zeros : (n : ℕ) → AreBits (zeros n)
-are-zeros n k = rw (read-replicated {A = ℕ} n k 0) (lit< tt)
+pub are_zeros : (n : ℕ) → AreBits (zeros n)
+are_zeros n k = rw (read_replicated {A = ℕ} n k 0) (lit< tt)
 
 -- bits to which nothing is added
-pub zip-zeros : (bits : List ℕ) → zip_with bit_xor bits (zeros (length bits)) ≡ bits
+pub zip_zeros : (bits : List ℕ) → zip_with bit_xor bits (zeros (length bits)) ≡ bits
 unfolding zip_with
-zip-zeros [] = refl
-zip-zeros (b ∷ bs) = ap₂ (λ (x : ℕ) (xs : List ℕ). x ∷ xs) (xor_zero_r b) (zip-zeros bs)
+zip_zeros [] = refl
+zip_zeros (b ∷ bs) = ap₂ (λ (x : ℕ) (xs : List ℕ). x ∷ xs) (xor_zero_r b) (zip_zeros bs)
 
 -- a function of sums that keeps each single bit of m keeps every number of m bits
 module _ (f : ℕ → ℕ) (m : ℕ) (linear : (c d : ℕ) → c < 2 ^ m → d < 2 ^ m → f (bit_xor c d) ≡ bit_xor (f c) (f d)) (single : (n : ℕ) → n < m → f (2 ^ n) ≡ 2 ^ n) where
@@ -46,37 +46,37 @@ module _ (f : ℕ → ℕ) (m : ℕ) (linear : (c d : ℕ) → c < 2 ^ m → d <
       ∙ linear (2 ^ n) (x - 2 ^ n) (within (2 ^ n) ge) (within (x - 2 ^ n) (omega arith))
       ∙ ap₂ bit_xor (single n inside) (keeps n (omega arith) (x - 2 ^ n) rest_lt)
       ∙ parts)
-      (lt-or-ge x (2 ^ n))
+      (lt_or_ge x (2 ^ n))
 
 -- each single bit of a state: computed, all 13
-all-bits : tabulate 13 (λ n. crcOf 13 poly13 (2 ^ n) (zeros 178)) ≡ tabulate 13 (λ n. 2 ^ n)
-unfolding tabulate crcStep
-all-bits = refl
+all_bits_lem : tabulate 13 (λ n. crc_of 13 poly13 (2 ^ n) (zeros 178)) ≡ tabulate 13 (λ n. 2 ^ n)
+unfolding tabulate crc_step
+all_bits_lem = refl
 
-one_bit : (n : ℕ) → n < 13 → crcOf 13 poly13 (2 ^ n) (zeros 178) ≡ 2 ^ n
+one_bit : (n : ℕ) → n < 13 → crc_of 13 poly13 (2 ^ n) (zeros 178) ≡ 2 ^ n
 one_bit n h =
-    sym (tabulate-at (λ n. crcOf 13 poly13 (2 ^ n) (zeros 178)) 0 13 n h)
-    ∙ ap (λ (l : List ℕ). get_or l n 0) all-bits ∙ tabulate-at (λ n. 2 ^ n) 0 13 n h
+    sym (tabulate_at (λ n. crc_of 13 poly13 (2 ^ n) (zeros 178)) 0 13 n h)
+    ∙ ap (λ (l : List ℕ). get_or l n 0) all_bits_lem ∙ tabulate_at (λ n. 2 ^ n) 0 13 n h
 
 -- so every state
-pub around-178 : (crc : ℕ) → crc < 2 ^ 13 → crcOf 13 poly13 crc (zeros 178) ≡ crc
-around-178 crc h =
-    keeps (λ c. crcOf 13 poly13 c (zeros 178)) 13
+pub around_178 : (crc : ℕ) → crc < 2 ^ 13 → crc_of 13 poly13 crc (zeros 178) ≡ crc
+around_178 crc h =
+    keeps (λ c. crc_of 13 poly13 c (zeros 178)) 13
     (λ c d hc hd.
-    ap (crcOf 13 poly13 (bit_xor c d)) (sym (zip-zeros (zeros 178)))
-    ∙ crc-linear 13 poly13 (lit< tt) (zeros 178) (zeros 178) refl (are-zeros 178) (are-zeros 178) c d hc hd)
+    ap (crc_of 13 poly13 (bit_xor c d)) (sym (zip_zeros (zeros 178)))
+    ∙ crc_linear 13 poly13 (lit< tt) (zeros 178) (zeros 178) refl (are_zeros 178) (are_zeros 178) c d hc hd)
     one_bit 13 (le_refl 13) crc h
 
 -- 89 bytes of zero are four times as many bits
-four-times : bitsOfBytes (zeros aroundBytes) ≡ zeros 178 ++ zeros 178 ++ zeros 178 ++ zeros 178
+four_times : bits_of_bytes (zeros around_bytes) ≡ zeros 178 ++ zeros 178 ++ zeros 178 ++ zeros 178
 unfolding tabulate flat_map
-four-times = refl
+four_times = refl
 
-stays : (xs ys : List ℕ) (crc : ℕ) → crcOf 13 poly13 crc xs ≡ crc → crcOf 13 poly13 crc ys ≡ crc → crcOf 13 poly13 crc (xs ++ ys) ≡ crc
-stays xs ys crc first then = crc-append 13 poly13 crc xs ys ∙ ap (λ (s : ℕ). crcOf 13 poly13 s ys) first ∙ then
+stays : (xs ys : List ℕ) (crc : ℕ) → crc_of 13 poly13 crc xs ≡ crc → crc_of 13 poly13 crc ys ≡ crc → crc_of 13 poly13 crc (xs ++ ys) ≡ crc
+stays xs ys crc first then = crc_append 13 poly13 crc xs ys ∙ ap (λ (s : ℕ). crc_of 13 poly13 s ys) first ∙ then
 
-pub around-bytes : (crc : ℕ) → crc < 2 ^ 13 → crcOf 13 poly13 crc (bitsOfBytes (zeros aroundBytes)) ≡ crc
-around-bytes crc h =
-    let once = around-178 crc h in
-    ap (crcOf 13 poly13 crc) four-times
+pub around_bytes_lem : (crc : ℕ) → crc < 2 ^ 13 → crc_of 13 poly13 crc (bits_of_bytes (zeros around_bytes)) ≡ crc
+around_bytes_lem crc h =
+    let once = around_178 crc h in
+    ap (crc_of 13 poly13 crc) four_times
     ∙ stays (zeros 178 ++ zeros 178 ++ zeros 178) (zeros 178) crc (stays (zeros 178 ++ zeros 178) (zeros 178) crc (stays (zeros 178) (zeros 178) crc once once) once) once

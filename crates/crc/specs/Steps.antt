@@ -2,12 +2,12 @@
 -- Assumes nothing.
 use Rattle.std.specs.Prelude.{List, ℕ}
 use Rattle.base.specs.Lists.{tabulate}
-use Rattle.crc.specs.Crc.{byteBits, bits_of, crcOf, poly13, poly16}
+use Rattle.crc.specs.Crc.{byte_bits, bits_of, crc_of, poly13, poly16}
 use Rattle.crc.specs.Crc5.{poly5}
 
 -- the step of a byte: what its eight bits make of a checksum of 0
 unfoldable pub step_of : ℕ → ℕ → ℕ → ℕ
-step_of width poly byte = crcOf width poly 0 (bits_of byteBits byte)
+step_of width poly byte = crc_of width poly 0 (bits_of byte_bits byte)
 
 -- "a table of 256 steps"
 unfoldable pub steps_of : ℕ → ℕ → List ℕ

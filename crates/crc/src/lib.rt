@@ -1,9 +1,9 @@
 // Checksums, byte by byte: CRC13 of a payload, the 16-bit checksum of CCSDS, and CRC5 of a header.
 ghost use Rattle.std.specs.Prelude.{◌≡◌, ◌++◌, reverse, ◌+◌, ◌*◌, ◌≤◌, ◌<◌, ◌^◌, length};
-ghost use Rattle.crc.specs.Crc.{crcOf, byteBits, bits_of, bitsOfBytes, poly13, start13, crc13Of, poly16, crc16Of};
-ghost use Rattle.crc.specs.Around.{aroundBytes, addedAt};
-ghost use Rattle.crc.specs.Crc5.{poly5, countedFlown, countingBits, crc5Over, crc5Of};
-ghost use Rattle.crc.specs.Halves.{hiWidth, loWidth, headerBits};
+ghost use Rattle.crc.specs.Crc.{crc_of, byte_bits, bits_of, bits_of_bytes, poly13, start13, crc13_of, poly16, crc16_of};
+ghost use Rattle.crc.specs.Around.{around_bytes, added_at};
+ghost use Rattle.crc.specs.Crc5.{poly5, counted_flown, counting_bits, crc5_over, crc5_of};
+ghost use Rattle.crc.specs.Halves.{hi_width, lo_width, header_bits};
 ghost use Rattle.crc.specs.Steps.{steps13, steps16, steps5};
 
 use base::Edition;
@@ -45,7 +45,7 @@ const BIT_35: u64 = 0x4_0000_0000;
 fn byte13_in(steps: &[u16; 256], crc: u16, byte: u8) -> u16
     requires steps_value { steps.now ≡ steps13 }
     requires crc_bound { crc < 2 ^ 13 }
-    ensures { result ≡ crcOf 13 poly13 crc (bits_of byteBits byte) }
+    ensures { result ≡ crc_of 13 poly13 crc (bits_of byte_bits byte) }
 {
     let top = (crc / LOW13) as u8;
     steps::step_in(steps, top ^ byte) ^ (crc % LOW13 * 0x100)
@@ -55,7 +55,7 @@ fn byte13_in(steps: &[u16; 256], crc: u16, byte: u8) -> u16
 fn down13(steps: &[u16; 256], start: u16, bytes: &[u8]) -> u16
     requires steps_value { steps.now ≡ steps13 }
     requires start_bound { start < 2 ^ 13 }
-    ensures { result ≡ crcOf 13 poly13 start (bitsOfBytes (reverse bytes.now)) }
+    ensures { result ≡ crc_of 13 poly13 start (bits_of_bytes (reverse bytes.now)) }
 {
     let mut crc = start;
     let mut i = bytes.len();
@@ -68,8 +68,8 @@ fn down13(steps: &[u16; 256], start: u16, bytes: &[u8]) -> u16
 
 // The bytes from a place on, added to a sum of as many.
 fn with_bytes(sum: [u8; AROUND_BYTES], bytes: &[u8], at: usize) -> [u8; AROUND_BYTES]
-    requires { at + aroundBytes ≤ length bytes.now }
-    ensures { result ≡ addedAt sum at bytes.now }
+    requires { at + around_bytes ≤ length bytes.now }
+    ensures { result ≡ added_at sum at bytes.now }
 {
     let mut next = [0u8; AROUND_BYTES];
     let mut j = 0;
@@ -84,9 +84,9 @@ fn with_bytes(sum: [u8; AROUND_BYTES], bytes: &[u8], at: usize) -> [u8; AROUND_B
 // both go in side by side.
 fn down13_beside(steps: &[u16; 256], bytes: &[u8], sum: &[u8]) -> u16
     requires steps_value { steps.now ≡ steps13 }
-    requires bytes_len_bound { length bytes.now ≤ aroundBytes }
-    requires sum_len { length sum.now ≡ aroundBytes }
-    ensures { result ≡ crcOf 13 poly13 start13 (bitsOfBytes (reverse (sum.now ++ bytes.now))) }
+    requires bytes_len_bound { length bytes.now ≤ around_bytes }
+    requires sum_len { length sum.now ≡ around_bytes }
+    ensures { result ≡ crc_of 13 poly13 start13 (bits_of_bytes (reverse (sum.now ++ bytes.now))) }
 {
     let mut started = START13;
     let mut added: u16 = 0;
@@ -105,7 +105,7 @@ fn down13_beside(steps: &[u16; 256], bytes: &[u8], sum: &[u8]) -> u16
 // table. That pays from two turns on.
 fn crc13_in(steps: &[u16; 256], payload: &[u8]) -> u16
     requires { steps.now ≡ steps13 }
-    ensures { result ≡ crc13Of payload.now }
+    ensures { result ≡ crc13_of payload.now }
 {
     if payload.len() < 2 * AROUND_BYTES {
         return down13(steps, START13, payload);
@@ -123,7 +123,7 @@ fn crc13_in(steps: &[u16; 256], payload: &[u8]) -> u16
 // CRC13 of a payload of any length, from its last byte to its first. The constant table is stored anew at each use, so it is copied
 // once and lent.
 pub fn crc13(payload: &[u8]) -> u16
-    ensures { result ≡ crc13Of payload.now }
+    ensures { result ≡ crc13_of payload.now }
 {
     let copy = steps::whole();
     crc13_in(&copy, payload)
@@ -132,7 +132,7 @@ pub fn crc13(payload: &[u8]) -> u16
 // A byte into the 16-bit checksum, the same way.
 fn byte16_in(steps: &[u16; 256], crc: u16, byte: u8) -> u16
     requires { steps.now ≡ steps16 }
-    ensures { result ≡ crcOf 16 poly16 crc (bits_of byteBits byte) }
+    ensures { result ≡ crc_of 16 poly16 crc (bits_of byte_bits byte) }
 {
     let top = (crc / LOW16) as u8;
     steps::step_in(steps, top ^ byte) ^ (crc % LOW16 * 0x100)
@@ -141,7 +141,7 @@ fn byte16_in(steps: &[u16; 256], crc: u16, byte: u8) -> u16
 // The 16-bit checksum by a lent copy of its table.
 fn crc16_in(steps: &[u16; 256], bytes: &[u8]) -> u16
     requires { steps.now ≡ steps16 }
-    ensures { result ≡ crc16Of bytes.now }
+    ensures { result ≡ crc16_of bytes.now }
 {
     let mut crc = START16;
     let mut i = 0;
@@ -154,7 +154,7 @@ fn crc16_in(steps: &[u16; 256], bytes: &[u8]) -> u16
 
 // The 16-bit checksum of any bytes, from the first to the last.
 pub fn crc16(bytes: &[u8]) -> u16
-    ensures { result ≡ crc16Of bytes.now }
+    ensures { result ≡ crc16_of bytes.now }
 {
     let copy = steps16::whole();
     crc16_in(&copy, bytes)
@@ -164,7 +164,7 @@ pub fn crc16(bytes: &[u8]) -> u16
 fn byte5_in(steps: &[u8; 256], crc: u8, byte: u8) -> u8
     requires steps_value { steps.now ≡ steps5 }
     requires crc_bound { crc < 2 ^ 5 }
-    ensures { result ≡ crcOf 5 poly5 crc (bits_of byteBits byte) }
+    ensures { result ≡ crc_of 5 poly5 crc (bits_of byte_bits byte) }
 {
     steps5::step_in(steps, (crc * TOP5) ^ byte)
 }
@@ -172,9 +172,9 @@ fn byte5_in(steps: &[u8; 256], crc: u8, byte: u8) -> u8
 // CRC5 of the header bits that count, from the last byte to the first. A header of 70 bits is two numbers, since no number of Rattle
 // has as many: `hi` is header bits 0 to 29, `lo` header bits 30 to 69. No field crosses bit 30.
 fn crc5_over(hi: u64, lo: u64) -> u8
-    requires hi_bound { hi < 2 ^ hiWidth }
-    requires lo_bound { lo < 2 ^ loWidth }
-    ensures { result ≡ crc5Over (headerBits hi lo) }
+    requires hi_bound { hi < 2 ^ hi_width }
+    requires lo_bound { lo < 2 ^ lo_width }
+    ensures { result ≡ crc5_over (header_bits hi lo) }
 {
     // Byte 8 is header bit 64 (bit 5 of `lo`) and the filling; bytes 0 to 7 are header bits 0 to 63.
     let last = lo / 0x20 % 2 * 0x80 + FILLING;
@@ -192,14 +192,14 @@ fn crc5_over(hi: u64, lo: u64) -> u8
 
 // The flown rule, which touches only `lo`: header bits 32 to 35 count as zero.
 fn counted_flown(lo: u64) -> u64
-    ensures { result ≡ countedFlown lo }
+    ensures { result ≡ counted_flown lo }
 {
     lo / BIT_31 * BIT_31 + lo % BIT_35
 }
 
 // What counts of `lo` under an edition.
 fn counting(edition: Edition, lo: u64) -> u64
-    ensures { result ≡ countingBits edition lo }
+    ensures { result ≡ counting_bits edition lo }
 {
     match edition {
         Edition::Flown => counted_flown(lo),
@@ -209,9 +209,9 @@ fn counting(edition: Edition, lo: u64) -> u64
 
 // CRC5 of a header under an edition.
 pub fn crc5(edition: Edition, hi: u64, lo: u64) -> u8
-    requires hi_bound { hi < 2 ^ hiWidth }
-    requires lo_bound { lo < 2 ^ loWidth }
-    ensures { result ≡ crc5Of edition (headerBits hi lo) }
+    requires hi_bound { hi < 2 ^ hi_width }
+    requires lo_bound { lo < 2 ^ lo_width }
+    ensures { result ≡ crc5_of edition (header_bits hi lo) }
 {
     crc5_over(hi, counting(edition, lo))
 }

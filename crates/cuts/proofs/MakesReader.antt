@@ -5,12 +5,12 @@ use Rattle.mark_reader.proofs.Walk.{◌≡◌, ℕ, List, [], ◌∷◌, Ura, na
 use Rattle.mark_reader.proofs.Walk.{Fun, fact, ‵, ◌⊛◌, ◌$◌, ◌∵◌, !, qed, join, frame, done, owns, u8, RefT, ShrSlice, Contract, on_entry, triple_of, ensured, lasts}
 use Rattle.mark_reader.proofs.Walk.{sep, Fml, fsep, raw, ⋆, move, drop, use1, use2, split, fsplit, fjoin, shr_slice_copy, nothing}
 use denote.Struct.Laws as LL
-use Rattle.mark_reader.specs.Readers.{readerAt}
+use Rattle.mark_reader.specs.Readers.{reader_at}
 use Rattle.mark_reader.specs.declared.Reader.{Reader}
 use Rattle.marks.specs.declared.State.{State}
 use Rattle.marks.specs.contracts.State as K
 use Rattle.marks.proofs.State.TheLaws as K'
-use Rattle.mark_reader.proofs.Held.{pieceVal, stateVal, OwnPiece, OwnState}
+use Rattle.mark_reader.proofs.Held.{piece_val, state_val, OwnPiece, OwnState}
 use Rattle.mark_reader.specs.contracts.new as new
 use types.Logic.{Logic, sem}
 
@@ -21,21 +21,21 @@ module _ {M : Type 1} {𝓤 : Ura M} (𝓛 : Logic 𝓤) (mem : Memory → SProp
 
   module _ (κ : Lft) (q : Share) (s : Bor (List ℕ)) where
     -- what it is passed, what it asks, and, of its `ensured`, the clause alone: it has no `&mut`, so what is said of last values is dropped
-    abbrev pub to-new : New.Ghost
-    to-new = (((κ, tt), (q, tt), tt, (s, tt), (pieceVal s ∷ [], tt)), tt)
+    abbrev pub to_new : New.Ghost
+    to_new = (((κ, tt), (q, tt), tt, (s, tt), (piece_val s ∷ [], tt)), tt)
 
-    pub asked-new : ent 𝓤 (on_entry 𝓛 new.signature (κ, tt) (q, tt) (s, tt) (pieceVal s ∷ [], tt)) (New.pre to-new)
-    asked-new = qed 𝓛 ((‵ (flft κ q) ⊛ ‵ ftrue) ∷ ‵ (owns (ShrSlice (named 0) κ u8 ∷ []) (s, tt) (pieceVal s ∷ [], tt)) ∷ []) ∵ join ! $ frame ! $ done !
+    pub asked_new : ent 𝓤 (on_entry 𝓛 new.signature (κ, tt) (q, tt) (s, tt) (piece_val s ∷ [], tt)) (New.pre to_new)
+    asked_new = qed 𝓛 ((‵ (flft κ q) ⊛ ‵ ftrue) ∷ ‵ (owns (ShrSlice (named 0) κ u8 ∷ []) (s, tt) (piece_val s ∷ [], tt)) ∷ []) ∵ join ! $ frame ! $ done !
 
-    pub said-new : (r : Reader) → ent 𝓤 (ensured 𝓛 new.ended (new.clauses 𝓛 mem run) (κ, tt) (s, tt) tt r) (fact 𝓤 (r ≡ readerAt s 0))
-    said-new r = ex_e 𝓤 _ (λ ws. snd∗ 𝓤 (sem 𝓛 (lasts new.ended (κ, tt) (s, tt) ws)) (fact 𝓤 (r ≡ readerAt s 0)))
+    pub said_new : (r : Reader) → ent 𝓤 (ensured 𝓛 new.ended (new.clauses 𝓛 mem run) (κ, tt) (s, tt) tt r) (fact 𝓤 (r ≡ reader_at s 0))
+    said_new r = ex_e 𝓤 _ (λ ws. snd∗ 𝓤 (sem 𝓛 (lasts new.ended (κ, tt) (s, tt) ws)) (fact 𝓤 (r ≡ reader_at s 0)))
 
     -- what a state and a piece own, beside what is not used again, gives what `new` asks, and what is kept for the calls after it and for the exit
     pub apart : (st : State) (more : Fml) → ent 𝓤 (⋆ 𝓛 ((‵ (flft κ q) ⊛ ‵ ftrue) ∷ ‵ (fsep (OwnState st) (fsep (OwnPiece κ s) more)) ∷ []))
-        (sep 𝓤 (New.pre to-new) (sep 𝓤 (sem 𝓛 (OwnPiece κ s)) (sep 𝓤 (sem 𝓛 (OwnState st)) (sem 𝓛 (OwnState st)))))
+        (sep 𝓤 (New.pre to_new) (sep 𝓤 (sem 𝓛 (OwnPiece κ s)) (sep 𝓤 (sem 𝓛 (OwnState st)) (sem 𝓛 (OwnState st)))))
     apart st more =
         qed 𝓛 ((‵ (flft κ q) ⊛ ‵ ftrue) ∷ ‵ (fsep (OwnState st) (fsep (OwnPiece κ s) more)) ∷ []) ∵
-        move ! (1 ∷ []) $ fsplit ! $ use1 𝓛 (‵ (OwnState st) ⊛ ‵ (OwnState st)) ((LL.copy K.the_type K'.the_copy 𝓛).twice st (stateVal st ∷ [])) $ split ! $
-        move ! (2 ∷ []) $ fsplit ! $ move ! (1 ∷ []) $ drop ! $ use1 𝓛 (‵ (OwnPiece κ s) ⊛ ‵ (OwnPiece κ s)) ((shr_slice_copy 𝓛 (named 0) κ u8).twice s (pieceVal s ∷ [])) $ split ! $
+        move ! (1 ∷ []) $ fsplit ! $ use1 𝓛 (‵ (OwnState st) ⊛ ‵ (OwnState st)) ((LL.copy K.the_type K'.the_copy 𝓛).twice st (state_val st ∷ [])) $ split ! $
+        move ! (2 ∷ []) $ fsplit ! $ move ! (1 ∷ []) $ drop ! $ use1 𝓛 (‵ (OwnPiece κ s) ⊛ ‵ (OwnPiece κ s)) ((shr_slice_copy 𝓛 (named 0) κ u8).twice s (piece_val s ∷ [])) $ split ! $
         -- [what the piece owns, twice; what the state owns, twice; the token]
-        nothing ! $ move ! (1 ∷ 0 ∷ []) $ fjoin ! $ move ! (4 ∷ 0 ∷ []) $ use2 𝓛 (raw (New.pre to-new)) asked-new $ frame ! $ frame ! $ frame ! $ done !
+        nothing ! $ move ! (1 ∷ 0 ∷ []) $ fjoin ! $ move ! (4 ∷ 0 ∷ []) $ use2 𝓛 (raw (New.pre to_new)) asked_new $ frame ! $ frame ! $ frame ! $ done !

@@ -11,92 +11,92 @@ use Rattle.base.specs.Checks.{Exactly, refusal}
 use Rattle.base.specs.declared.Refusal.{Refusal}
 use Rattle.base.specs.declared.Written.{Written}
 use Rattle.base.specs.declared.Written.TheVariants.{Done, Refused}
-use Rattle.base.proofs.Exactly.{exactly, done-apart}
+use Rattle.base.proofs.Exactly.{exactly, done_apart}
 use Rattle.layout.specs.Bits.{bit_at, AreBytes}
 use Rattle.layout.specs.Rows.{row_in, Outside}
-use Rattle.beesat.specs.Tables.{rows, fieldCount, errorAt}
-use Rattle.beesat.specs.Reading.{fieldIn, apidField, idleApid, headerIn, frameChecks, shownField, read_of}
+use Rattle.beesat.specs.Tables.{rows, field_count, error_at}
+use Rattle.beesat.specs.Reading.{field_in, apid_field, idle_apid, header_in, frame_checks, shown_field, read_of}
 use Rattle.beesat.specs.Accepting.{Accepts, ReadsAs}
-use Rattle.beesat.specs.Writing.{writeChecks, writeFieldOf, afterField, FieldWritten}
+use Rattle.beesat.specs.Writing.{write_checks, write_field_of, after_field, FieldWritten}
 use Rattle.beesat.specs.declared.Read.{Read}
 use Rattle.beesat.specs.declared.Answer.TheVariants.{Idle, Refused as NotRead}
-use Rattle.beesat.proofs.Accepted.{reads-exactly, refused-exactly, answer-beside}
-use Rattle.beesat.proofs.Fields.{dataCount}
+use Rattle.beesat.proofs.Accepted.{reads_exactly, refused_exactly, answer_beside}
+use Rattle.beesat.proofs.Fields.{data_count}
 use Rattle.beesat.proofs.Writable.{Writable, writable, writes}
 use Rattle.beesat.proofs.Rewritten as rewritten
 
 -- "Accepted exactly when the rules of 000 say so": the answer is that of the rules
-pub beesat-accepted-exactly : (frame : List ℕ) (r : Read) → AreBytes frame → ((why : Refusal) → r.answer ≡ NotRead why → ⊥)
+pub beesat_accepted_exactly : (frame : List ℕ) (r : Read) → AreBytes frame → ((why : Refusal) → r.answer ≡ NotRead why → ⊥)
     → (read_of frame ≡ r → ReadsAs frame r) × (ReadsAs frame r → read_of frame ≡ r)
-beesat-accepted-exactly = reads-exactly
+beesat_accepted_exactly = reads_exactly
 
 -- "Refusals, in order": given exactly when the paper's table says so, in reading and in writing
-pub beesat-refused-exactly : (frame : List ℕ) (why : Refusal) → Exactly (read_of frame).answer (NotRead why) (frameChecks NotRead frame)
-beesat-refused-exactly frame why = rw (answer-beside frame) (refused-exactly frame why)
+pub beesat_refused_exactly : (frame : List ℕ) (why : Refusal) → Exactly (read_of frame).answer (NotRead why) (frame_checks NotRead frame)
+beesat_refused_exactly frame why = rw (answer_beside frame) (refused_exactly frame why)
 
-pub field-refused-exactly : (frame : List ℕ) (field value : ℕ) (why : Refusal) → Exactly (writeFieldOf frame field value) (Refused why) (writeChecks frame field value)
-unfolding writeFieldOf
-field-refused-exactly frame field value why = exactly Done (Refused why) (writeChecks frame field value) (done-apart why)
+pub field_refused_exactly : (frame : List ℕ) (field value : ℕ) (why : Refusal) → Exactly (write_field_of frame field value) (Refused why) (write_checks frame field value)
+unfolding write_field_of
+field_refused_exactly frame field value why = exactly Done (Refused why) (write_checks frame field value) (done_apart why)
 
 -- A CALL OF THE WRITER
 module _ (field value : ℕ) (before : List ℕ) (answer : Written) (after : List ℕ) (written : FieldWritten field value before answer after) where
   -- "the frame's bytes are unchanged in all" refusals
-  pub refused-unchanged : (why : Refusal) → answer ≡ Refused why → after ≡ before
-  refused-unchanged why refused = written.bytes ∙ ap (λ (a : Written). afterField a field value before) refused
+  pub refused_unchanged : (why : Refusal) → answer ≡ Refused why → after ≡ before
+  refused_unchanged why refused = written.bytes ∙ ap (λ (a : Written). after_field a field value before) refused
 
   module _ (done : answer ≡ Done) where
     may : Writable before field value
     may = writable before field value (sym done ∙ written.answered)
 
-    is-next : after ≡ rewritten.next before field value may
-    is-next = written.bytes ∙ ap (λ (a : Written). afterField a field value before) done
+    is_next : after ≡ rewritten.next before field value may
+    is_next = written.bytes ∙ ap (λ (a : Written). after_field a field value before) done
 
     -- "every bit outside the field and the error field is unchanged"
-    pub outside-unchanged : (i : ℕ) → Outside (row_in rows field) i → Outside (row_in rows errorAt) i → bit_at after i ≡ bit_at before i
-    outside-unchanged i out error-out = rw is-next (rewritten.next-outside before field value may i out error-out)
+    pub outside_unchanged : (i : ℕ) → Outside (row_in rows field) i → Outside (row_in rows error_at) i → bit_at after i ≡ bit_at before i
+    outside_unchanged i out error-out = rw is_next (rewritten.next_outside before field value may i out error-out)
 
     -- "the frame reads well again"
-    pub accepted-again : Accepts after
-    accepted-again = rw is-next (rewritten.next-accepts before field value may)
+    pub accepted_again : Accepts after
+    accepted_again = rw is_next (rewritten.next_accepts before field value may)
 
     -- "the field reads back and every other field reads as before, except after APID 0x7FF"
-    pub reads-as-before : (field ≡ apidField → value ≡ idleApid → ⊥) → (k : ℕ) → k < fieldCount
-        → shownField (read_of after) k ≡ cond (eqb k field) value (shownField (read_of before) k)
-    reads-as-before other k h = rw is-next (rewritten.next-shows before field value may other k h)
+    pub reads_as_before : (field ≡ apid_field → value ≡ idle_apid → ⊥) → (k : ℕ) → k < field_count
+        → shown_field (read_of after) k ≡ cond (eqb k field) value (shown_field (read_of before) k)
+    reads_as_before other k h = rw is_next (rewritten.next_shows before field value may other k h)
 
     -- "then the frame is idle, its header fields read so, values and states read 0, and their bits stand"
-    module _ (apid : field ≡ apidField) (idle : value ≡ idleApid) where
-      pub made-idle : (read_of after).answer ≡ Idle (headerIn after)
-      made-idle = rw is-next (rewritten.next-answers-idle before field value may apid idle)
+    module _ (apid : field ≡ apid_field) (idle : value ≡ idle_apid) where
+      pub made_idle : (read_of after).answer ≡ Idle (header_in after)
+      made_idle = rw is_next (rewritten.next_answers_idle before field value may apid idle)
 
-      pub header-reads-so : (k : ℕ) → dataCount ≤ k → k < fieldCount → shownField (read_of after) k ≡ cond (eqb k field) value (shownField (read_of before) k)
-      header-reads-so k from h = rw is-next (rewritten.next-shows-idle before field value may apid idle k from h)
+      pub header_reads_so : (k : ℕ) → data_count ≤ k → k < field_count → shown_field (read_of after) k ≡ cond (eqb k field) value (shown_field (read_of before) k)
+      header_reads_so k from h = rw is_next (rewritten.next_shows_idle before field value may apid idle k from h)
 
-      pub data-reads-zero : (k : ℕ) → k < dataCount → shownField (read_of after) k ≡ 0
-      data-reads-zero k h = rw is-next (rewritten.next-hides before field value may apid idle k h)
+      pub data_reads_zero : (k : ℕ) → k < data_count → shown_field (read_of after) k ≡ 0
+      data_reads_zero k h = rw is_next (rewritten.next_hides before field value may apid idle k h)
 
-      pub data-stands : (k : ℕ) → k < dataCount → fieldIn after k ≡ fieldIn before k
-      data-stands k h = rw is-next (rewritten.next-other before field value may k (omega arith) (λ (e : k ≡ field). omega arith))
+      pub data_stands : (k : ℕ) → k < data_count → field_in after k ≡ field_in before k
+      data_stands k h = rw is_next (rewritten.next_other before field value may k (omega arith) (λ (e : k ≡ field). omega arith))
 
     -- "the same write again changes no byte (38 after APID 0x7FF)"
     module _ (answer' : Written) (after' : List ℕ) (again : FieldWritten field value after answer' after') where
-      pub again-done : (field ≡ apidField → value ≡ idleApid → ⊥) → answer' ≡ Done
-      again-done other = again.answered ∙ rw is-next (writes _ field value (rewritten.next-writable before field value may other))
+      pub again_done : (field ≡ apid_field → value ≡ idle_apid → ⊥) → answer' ≡ Done
+      again_done other = again.answered ∙ rw is_next (writes _ field value (rewritten.next_writable before field value may other))
 
-      pub again-38 : field ≡ apidField → value ≡ idleApid → answer' ≡ Refused (refusal 38 field)
-      again-38 apid idle = again.answered ∙ rw is-next (rewritten.next-refuses before field value may apid idle)
+      pub again_38 : field ≡ apid_field → value ≡ idle_apid → answer' ≡ Refused (refusal 38 field)
+      again_38 apid idle = again.answered ∙ rw is_next (rewritten.next_refuses before field value may apid idle)
 
-      pub again-unchanged : after' ≡ after
-      again-unchanged = again.bytes ∙ by answer'
+      pub again_unchanged : after' ≡ after
+      again_unchanged = again.bytes ∙ by answer'
         where
-          by : (a : Written) → afterField a field value after ≡ after
-          by Done = rw is-next (rewritten.next-again before field value may)
+          by : (a : Written) → after_field a field value after ≡ after
+          by Done = rw is_next (rewritten.next_again before field value may)
           by (Refused why) = refl
 
 -- "writing the value that is there changes nothing at all"
-pub same-value-unchanged : (field : ℕ) (before : List ℕ) (answer : Written) (after : List ℕ) → AreBytes before → FieldWritten field (fieldIn before field) before answer after → after ≡ before
-same-value-unchanged field before answer after bytes written = written.bytes ∙ by answer written.answered
+pub same_value_unchanged : (field : ℕ) (before : List ℕ) (answer : Written) (after : List ℕ) → AreBytes before → FieldWritten field (field_in before field) before answer after → after ≡ before
+same_value_unchanged field before answer after bytes written = written.bytes ∙ by answer written.answered
   where
-    by : (a : Written) → a ≡ writeFieldOf before field (fieldIn before field) → afterField a field (fieldIn before field) before ≡ before
-    by Done e = rewritten.same-value before field bytes (writable before field (fieldIn before field) e)
+    by : (a : Written) → a ≡ write_field_of before field (field_in before field) → after_field a field (field_in before field) before ≡ before
+    by Done e = rewritten.same_value before field bytes (writable before field (field_in before field) e)
     by (Refused why) e = refl

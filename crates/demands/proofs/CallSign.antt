@@ -7,32 +7,32 @@ use Rattle.base.specs.declared.Edition.{Edition}
 use Rattle.base.specs.declared.Edition.TheVariants.{Corrected}
 use Rattle.base.specs.Checks.{first}
 use Rattle.header.specs.declared.Rules.{Rules}
-use Rattle.header_reader.specs.Reading.{signal, signed, repairedAnswer, readHeaderOf, headerRead}
-use Rattle.frame.specs.Frames.{frame, signedFrame, frame_of, frameRead}
+use Rattle.header_reader.specs.Reading.{signal, signed, repaired_answer, read_header_of, header_read}
+use Rattle.frame.specs.Frames.{frame, signed_frame, frame_of, frame_read}
 use Rattle.sheet.specs.declared.Sheet.{Sheet}
-use Rattle.sheet.specs.Sheets.{offerAnswer, offerOf}
-use Rattle.demands.specs.Unsigned.{headerChecksBefore, frameChecksBefore}
+use Rattle.sheet.specs.Sheets.{offer_answer, offer_of}
+use Rattle.demands.specs.Unsigned.{header_checks_before, frame_checks_before}
 
 -- "Without them a frame is judged as before": by the rows without 23 and 24
-pub header-as-before : (rules : Rules) (air : List ℕ) → readHeaderOf (signal rules air) ≡ first (repairedAnswer (signal rules air)) (headerChecksBefore (signal rules air))
-unfolding readHeaderOf
-header-as-before rules air = refl
+pub header_as_before : (rules : Rules) (air : List ℕ) → read_header_of (signal rules air) ≡ first (repaired_answer (signal rules air)) (header_checks_before (signal rules air))
+unfolding read_header_of
+header_as_before rules air = refl
 
-pub frame-as-before : (rules : Rules) (air payload : List ℕ) → frame_of (frame rules air payload) ≡ first (repairedAnswer (signal rules air)) (frameChecksBefore (frame rules air payload))
+pub frame_as_before : (rules : Rules) (air payload : List ℕ) → frame_of (frame rules air payload) ≡ first (repaired_answer (signal rules air)) (frame_checks_before (frame rules air payload))
 unfolding frame_of
-frame-as-before rules air payload = refl
+frame_as_before rules air payload = refl
 
 -- "under the corrected edition they aren't looked at": what is read with them is what is read without them, on a sheet of either edition too
 module _ (rules : Rules) (corrected : rules.edition ≡ Corrected) (call air : List ℕ) where
-  pub header-corrected : headerRead (signed rules call air) ≡ headerRead (signal rules air)
-  unfolding headerRead readHeaderOf
-  header-corrected = rw corrected
+  pub header_corrected : header_read (signed rules call air) ≡ header_read (signal rules air)
+  unfolding header_read read_header_of
+  header_corrected = rw corrected
 
   module _ (payload : List ℕ) where
-    pub frame-corrected : frameRead (signedFrame rules call air payload) ≡ frameRead (frame rules air payload)
-    unfolding frameRead frame_of
-    frame-corrected = rw corrected
+    pub frame_corrected : frame_read (signed_frame rules call air payload) ≡ frame_read (frame rules air payload)
+    unfolding frame_read frame_of
+    frame_corrected = rw corrected
 
-    pub offer-corrected : (own : Edition) (sheet : Sheet) → offerOf own sheet (signedFrame rules call air payload) ≡ offerOf own sheet (frame rules air payload)
-    unfolding offerAnswer
-    offer-corrected own sheet = rw corrected
+    pub offer_corrected : (own : Edition) (sheet : Sheet) → offer_of own sheet (signed_frame rules call air payload) ≡ offer_of own sheet (frame rules air payload)
+    unfolding offer_answer
+    offer_corrected own sheet = rw corrected

@@ -11,33 +11,33 @@ use Rattle.base.specs.declared.Edition.{Edition}
 use Rattle.base.specs.declared.Edition.TheVariants.{Corrected}
 use Rattle.base.specs.declared.Written.TheVariants.{Done}
 use Rattle.base.specs.Checks.{refusal}
-use Rattle.crc.specs.Crc5.{headerBit, crc5Of}
-use Rattle.air.specs.Air.{airBits}
-use Rattle.air.specs.Flips.{mostFlips}
+use Rattle.crc.specs.Crc5.{header_bit, crc5_of}
+use Rattle.air.specs.Air.{air_bits}
+use Rattle.air.specs.Flips.{most_flips}
 use Rattle.header.specs.declared.Fields.{Fields}
 use Rattle.header.specs.declared.Rules.{Rules}
 use Rattle.header.specs.declared.Answer.TheVariants.{Accepted, Refused}
-use Rattle.header_reader.specs.Reading.{signal, unknownSource, readHeaderOf}
-use Rattle.header.specs.Writing.{bitsFor, headerFor, HeaderWritten}
+use Rattle.header_reader.specs.Reading.{signal, unknown_source, read_header_of}
+use Rattle.header.specs.Writing.{bits_for, header_for, HeaderWritten}
 use Rattle.header.proofs.WrittenAir.{Sent, sent}
-use Rattle.header_reader.proofs.OtherEdition.{corrected-no-5, reads_same, refused-4}
+use Rattle.header_reader.proofs.OtherEdition.{corrected_no_5, reads_same, refused_4}
 
 -- 5 is given under the flown edition only
-pub never-5 : (n : ℕ) → (unknownSource Corrected n).applies ≡ false
-never-5 = corrected-no-5
+pub never_5 : (n : ℕ) → (unknown_source Corrected n).applies ≡ false
+never_5 = corrected_no_5
 
 -- written under one edition, with a SrcId that the flown edition knows, and read under some rules, whatever their edition
 module _ (edition : Edition) (f : Fields) (payload before after : List ℕ) (written : HeaderWritten edition f payload before Done after)
-    (known : f.src_id ≤ 7) (rules : Rules) (allowed : rules.limit ≤ mostFlips) where
+    (known : f.src_id ≤ 7) (rules : Rules) (allowed : rules.limit ≤ most_flips) where
   so : Sent edition f payload after
   so = sent edition f payload before after written
 
   -- "reads the same under the other where bits 32 to 35 are zero"
-  pub read-under-other : ((k : ℕ) → 32 ≤ k → k < 36 → headerBit (bitsFor edition f payload) k ≡ 0)
-      → readHeaderOf (signal rules (take airBits after)) ≡ Accepted (headerFor edition f payload) 0
-  read-under-other = rw so.air (reads_same edition f payload so.writable known rules allowed)
+  pub read_under_other : ((k : ℕ) → 32 ≤ k → k < 36 → header_bit (bits_for edition f payload) k ≡ 0)
+      → read_header_of (signal rules (take air_bits after)) ≡ Accepted (header_for edition f payload) 0
+  read_under_other = rw so.air (reads_same edition f payload so.writable known rules allowed)
 
   -- "and is refused there with 4 where any of them is set"
-  pub refused-under-other : (rules.edition ≡ edition → ⊥) → (k : ℕ) → 32 ≤ k → k < 36 → headerBit (bitsFor edition f payload) k ≡ 1
-      → readHeaderOf (signal rules (take airBits after)) ≡ Refused (refusal 4 (crc5Of rules.edition (bitsFor edition f payload)))
-  refused-under-other = rw so.air (refused-4 edition f payload so.writable rules allowed)
+  pub refused_under_other : (rules.edition ≡ edition → ⊥) → (k : ℕ) → 32 ≤ k → k < 36 → header_bit (bits_for edition f payload) k ≡ 1
+      → read_header_of (signal rules (take air_bits after)) ≡ Refused (refusal 4 (crc5_of rules.edition (bits_for edition f payload)))
+  refused_under_other = rw so.air (refused_4 edition f payload so.writable rules allowed)

@@ -9,13 +9,13 @@ use Prim.Native.Nat.{ℕ}
 use Rattle.base.specs.declared.Edition.{Edition}
 use Rattle.frame.specs.Frames.{Frame}
 use Rattle.source.specs.Lanes.{Role}
-use Rattle.sheet.specs.Sheets.{laneAt}
-use Rattle.sheet.specs.Histories.{sheetOf, takenFrom, laneFrames, own_of}
-use Rattle.sheet.proofs.LaneFrames.{frames-only, heard-only}
+use Rattle.sheet.specs.Sheets.{lane_at}
+use Rattle.sheet.specs.Histories.{sheet_of, taken_from, lane_frames, own_of}
+use Rattle.sheet.proofs.LaneFrames.{frames_only, heard_only}
 
 module _ (own : Edition) (k : ℕ) (role : Role) (one other : List Frame) where
-  pub lane-frames-only : laneFrames k role (takenFrom own one) ≡ laneFrames k role (takenFrom own other) → laneAt (sheetOf own one) k role ≡ laneAt (sheetOf own other) k role
-  lane-frames-only = frames-only k role own one other
+  pub lane_frames_only : lane_frames k role (taken_from own one) ≡ lane_frames k role (taken_from own other) → lane_at (sheet_of own one) k role ≡ lane_at (sheet_of own other) k role
+  lane_frames_only = frames_only k role own one other
 
-  pub lane-heard-only : own_of k role (takenFrom own one) ≡ own_of k role (takenFrom own other) → laneAt (sheetOf own one) k role ≡ laneAt (sheetOf own other) k role
-  lane-heard-only = heard-only k role own one other
+  pub lane_heard_only : own_of k role (taken_from own one) ≡ own_of k role (taken_from own other) → lane_at (sheet_of own one) k role ≡ lane_at (sheet_of own other) k role
+  lane_heard_only = heard_only k role own one other

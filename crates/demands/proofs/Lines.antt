@@ -4,19 +4,19 @@ use mathlib.Core.Path.{◌≡◌, sym, ap, ◌∙◌}
 use mathlib.Core.List.{List, [], ◌++◌, append-nil, flatten}
 use Prim.Native.Nat.{ℕ}
 use Rattle.walk.specs.Walks.{Closed}
-use Rattle.unpacking.specs.Unpacking.{scanOf, streamedOf as unpackStreamed}
-use Rattle.unpacking.proofs.Streaming.{whole-unpacking}
-use Rattle.packing.specs.Pieces.{LastLine, wholePacked, streamedOf as packStreamed}
+use Rattle.unpacking.specs.Unpacking.{scan_of, streamed_of as unpackStreamed}
+use Rattle.unpacking.proofs.Streaming.{whole_unpacking}
+use Rattle.packing.specs.Pieces.{LastLine, whole_packed, streamed_of as packStreamed}
 use Rattle.packing.proofs.Letters.{AreBytes}
-use Rattle.packing.proofs.WholeBack.{packed-back}
-use Rattle.packing.proofs.Streaming.{whole-packing}
+use Rattle.packing.proofs.WholeBack.{packed_back}
+use Rattle.packing.proofs.Streaming.{whole_packing}
 
 -- an input in pieces, and its lines in others; what is left after the last whole record has no line
 module _ (input lines : List (List ℕ)) (are : AreBytes (flatten input)) (is : flatten lines ≡ unpackStreamed input) where
-  pub lines-back : (packStreamed lines).text ++ (scanOf (flatten input)).rest ≡ flatten input
-  lines-back =
-      ap (λ (l : List ℕ). l ++ (scanOf (flatten input)).rest) (ap (λ (c : Closed LastLine). c.text) (whole-packing lines ∙ ap wholePacked (is ∙ whole-unpacking input))) ∙ packed-back (flatten input) are
+  pub lines_back : (packStreamed lines).text ++ (scan_of (flatten input)).rest ≡ flatten input
+  lines_back =
+      ap (λ (l : List ℕ). l ++ (scan_of (flatten input)).rest) (ap (λ (c : Closed LastLine). c.text) (whole_packing lines ∙ ap whole_packed (is ∙ whole_unpacking input))) ∙ packed_back (flatten input) are
 
   -- so of records, with nothing after them, the same bytes come back
-  pub records-back : (scanOf (flatten input)).rest ≡ [] → (packStreamed lines).text ≡ flatten input
-  records-back none = sym (append-nil (packStreamed lines).text) ∙ sym (ap (λ (l : List ℕ). (packStreamed lines).text ++ l) none) ∙ lines-back
+  pub records_back : (scan_of (flatten input)).rest ≡ [] → (packStreamed lines).text ≡ flatten input
+  records_back none = sym (append-nil (packStreamed lines).text) ∙ sym (ap (λ (l : List ℕ). (packStreamed lines).text ++ l) none) ∙ lines_back

@@ -5,15 +5,15 @@ use mathlib.Core.List.{flat_map}
 use lib.Count.{ones_in}
 use lib.Dec.{lit<}
 use Rattle.base.specs.Lists.{tabulate, lowest}
-use Rattle.word.specs.Words.{multipleOf, distance}
-use Rattle.word.specs.Repairs.{nearest, repairOf}
-use Rattle.crc.specs.Crc.{crcStep, crc13Of}
-use Rattle.crc.specs.Crc5.{message, nineBytes, crc5Over, countedFlown, crc5Of}
-use Rattle.header.proofs.Places.{bit-travels}
+use Rattle.word.specs.Words.{multiple_of, distance}
+use Rattle.word.specs.Repairs.{nearest, repair_of}
+use Rattle.crc.specs.Crc.{crc_step, crc13_of}
+use Rattle.crc.specs.Crc5.{message, nine_bytes, crc5_over, counted_flown, crc5_of}
+use Rattle.header.proofs.Places.{bit_travels}
 use Rattle.demands.specs.Examples.{AllHold, examples}
 
 pub marked : AllHold examples
-unfolding repairOf nearest lowest multipleOf distance ones_in tabulate flat_map crcStep crc13Of message nineBytes crc5Over countedFlown crc5Of
+unfolding repair_of nearest lowest multiple_of distance ones_in tabulate flat_map crc_step crc13_of message nine_bytes crc5_over counted_flown crc5_of
 marked = (
   refl,
   (
@@ -27,9 +27,9 @@ marked = (
           (
             refl,
             (
-              (λ n. bit-travels n 0 (lit< tt)),
+              (λ n. bit_travels n 0 (lit< tt)),
               (
-                (λ n. bit-travels n 69 (lit< tt)),
+                (λ n. bit_travels n 69 (lit< tt)),
                 (refl, (refl, (refl, (refl, (refl, (refl, (refl, (refl, (refl, tt))))))))),
               ),
             ),

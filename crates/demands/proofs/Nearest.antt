@@ -7,37 +7,37 @@ use mathlib.Core.List.{List}
 use Prim.Native.Nat.{ℕ, ◌<◌, ◌≤◌}
 use lib.Bits.{bit_xor}
 use lib.ListN.{get_or}
-use Rattle.word.specs.Words.{wordLimit}
-use Rattle.word.specs.Repairs.{Close, repairOf}
+use Rattle.word.specs.Words.{word_limit}
+use Rattle.word.specs.Repairs.{Close, repair_of}
 use Rattle.word.specs.declared.Repaired.TheVariants.{Word, Beyond}
-use Rattle.word.proofs.Valids.{valid-one}
-use Rattle.word.proofs.Answer.{repair-above, repair-close, repair-far, repair-word, repair-beyond}
-use Rattle.air.specs.Air.{wordCount}
-use Rattle.air.specs.WordRepairs.{firstBeyond, repairedOf, patternsIn}
+use Rattle.word.proofs.Valids.{valid_one}
+use Rattle.word.proofs.Answer.{repair_above, repair_close, repair_far, repair_word, repair_beyond}
+use Rattle.air.specs.Air.{word_count}
+use Rattle.air.specs.WordRepairs.{first_beyond, repaired_of, patterns_in}
 use Rattle.air.specs.Closeness.{AllClose, differences}
-use Rattle.air.proofs.Restored.{restored-none, restored-words, restored-patterns, repaired-all-close}
+use Rattle.air.proofs.Restored.{restored_none, restored_words, restored_patterns, repaired_all_close}
 
 -- a word becomes v, "and the flip pattern itself" is where they differ, exactly when v is valid and within three places
-pub repaired-exactly : (w v pattern : ℕ) → w < wordLimit
-    → (repairOf w ≡ Word v pattern → Close w v × (pattern ≡ bit_xor w v)) × (Close w v → pattern ≡ bit_xor w v → repairOf w ≡ Word v pattern)
-repaired-exactly w v pattern h = (repair-word w v pattern h, λ close is. repair-close w v h close ∙ ap (Word v) (sym is))
+pub repaired_exactly : (w v pattern : ℕ) → w < word_limit
+    → (repair_of w ≡ Word v pattern → Close w v × (pattern ≡ bit_xor w v)) × (Close w v → pattern ≡ bit_xor w v → repair_of w ≡ Word v pattern)
+repaired_exactly w v pattern h = (repair_word w v pattern h, λ close is. repair_close w v h close ∙ ap (Word v) (sym is))
 
 -- "if there is one": it is beyond repair exactly when there is no valid word within three places
-pub beyond-exactly : (w : ℕ) → w < wordLimit → (repairOf w ≡ Beyond → (v : ℕ) → Close w v → ⊥) × (((v : ℕ) → Close w v → ⊥) → repairOf w ≡ Beyond)
-beyond-exactly w h = (repair-beyond w h, repair-far w h)
+pub beyond_exactly : (w : ℕ) → w < word_limit → (repair_of w ≡ Beyond → (v : ℕ) → Close w v → ⊥) × (((v : ℕ) → Close w v → ⊥) → repair_of w ≡ Beyond)
+beyond_exactly w h = (repair_beyond w h, repair_far w h)
 
 -- "the valid word": there is at most one
-pub one-nearest : (w u v : ℕ) → Close w u → Close w v → u ≡ v
-one-nearest w u v a b = valid-one w a.valid b.valid a.near b.near
+pub one_nearest : (w u v : ℕ) → Close w u → Close w v → u ≡ v
+one_nearest w u v a b = valid_one w a.valid b.valid a.near b.near
 
 -- "A number above 32,767 is no word"
-pub above-beyond : (w : ℕ) → wordLimit ≤ w → repairOf w ≡ Beyond
-above-beyond w h = sym (repair-above w h)
+pub above_beyond : (w : ℕ) → word_limit ≤ w → repair_of w ≡ Beyond
+above_beyond w h = sym (repair_above w h)
 
 -- so fourteen words are repaired to those that the rules ask for, and to no others, with the places in which they differ
-module _ (words : List ℕ) (small : (j : ℕ) → get_or words j 0 < wordLimit) (valid : List ℕ) where
-  pub close-repaired : AllClose words valid → (firstBeyond words ≡ wordCount) × (repairedOf words ≡ valid) × (patternsIn words ≡ differences words valid)
-  close-repaired so = (restored-none words small valid so, restored-words words small valid so, restored-patterns words small valid so)
+module _ (words : List ℕ) (small : (j : ℕ) → get_or words j 0 < word_limit) (valid : List ℕ) where
+  pub close_repaired : AllClose words valid → (first_beyond words ≡ word_count) × (repaired_of words ≡ valid) × (patterns_in words ≡ differences words valid)
+  close_repaired so = (restored_none words small valid so, restored_words words small valid so, restored_patterns words small valid so)
 
-  pub repaired-close : firstBeyond words ≡ wordCount → repairedOf words ≡ valid → AllClose words valid
-  repaired-close none are = rw are at (repaired-all-close words small none)
+  pub repaired_close : first_beyond words ≡ word_count → repaired_of words ≡ valid → AllClose words valid
+  repaired_close none are = rw are at (repaired_all_close words small none)

@@ -7,45 +7,45 @@ use Prim.Native.Nat.{ℕ, ◌<◌, ◌≤◌}
 use lib.ListN.{length, replicate}
 use Rattle.base.specs.declared.Edition.{Edition}
 use Rattle.base.specs.declared.Written.TheVariants.{Done}
-use Rattle.air.specs.Air.{wordCount, payloadLimit}
-use Rattle.air.specs.Flips.{mostFlips}
-use Rattle.sign.specs.Calls.{Call, lookedAt, Agrees}
+use Rattle.air.specs.Air.{word_count, payload_limit}
+use Rattle.air.specs.Flips.{most_flips}
+use Rattle.sign.specs.Calls.{Call, looked_at, Agrees}
 use Rattle.header.specs.declared.Fields.{Fields}
 use Rattle.header.specs.declared.Rules.{Rules}
 use Rattle.header.specs.declared.Answer.TheVariants.{Accepted}
-use Rattle.header.specs.Fields.{satelliteOf}
-use Rattle.header.specs.Writing.{headerFor}
-use Rattle.header_reader.proofs.Writing.{written-accepted}
-use Rattle.frame.specs.Frames.{frameWith, frameRead}
-use Rattle.frame.proofs.Rules.{rules-then-reader}
-use Rattle.frame.proofs.Writing.{with-payload}
+use Rattle.header.specs.Fields.{satellite_of}
+use Rattle.header.specs.Writing.{header_for}
+use Rattle.header_reader.proofs.Writing.{written_accepted}
+use Rattle.frame.specs.Frames.{frame_with, frame_read}
+use Rattle.frame.proofs.Rules.{rules_then_reader}
+use Rattle.frame.proofs.Writing.{with_payload}
 use Rattle.record.specs.declared.Cut.TheVariants.{Record}
-use Rattle.record.specs.Records.{airIn, payloadIn, cut_of}
-use Rattle.record_writer.specs.Writing.{writeRecordOf, RecordWritten}
-use Rattle.record_writer.specs.LongPayload.{wholeAnswer}
+use Rattle.record.specs.Records.{air_in, payload_in, cut_of}
+use Rattle.record_writer.specs.Writing.{write_record_of, RecordWritten}
+use Rattle.record_writer.specs.LongPayload.{whole_answer}
 use Rattle.record_writer.proofs.ReadBack.{Recorded, recorded}
-use Rattle.record_writer.proofs.LongPayload.{long-refused}
+use Rattle.record_writer.proofs.LongPayload.{long_refused}
 
 -- the writer was handed an edition, some fields, a payload and an output, and wrote; the reader is handed rules of the same edition with a limit of at
 -- most 42, and no call sign that is looked at, or that of the satellite
-module _ (rules : Rules) (allowed : rules.limit ≤ mostFlips) (f : Fields) (payload before after : List ℕ) (written : RecordWritten rules.edition f payload before Done after)
-    (call : Call) (agrees : Agrees (lookedAt rules.edition call) (satelliteOf f.src_id)) where
+module _ (rules : Rules) (allowed : rules.limit ≤ most_flips) (f : Fields) (payload before after : List ℕ) (written : RecordWritten rules.edition f payload before Done after)
+    (call : Call) (agrees : Agrees (looked_at rules.edition call) (satellite_of f.src_id)) where
   so : Recorded rules.edition f payload after
   so = recorded rules.edition f payload before after written
 
   -- a whole record stands at the front, with as many payload bytes as were handed in
-  pub recorded-cut : cut_of after ≡ Record (length payload)
-  recorded-cut = so.cut
+  pub recorded_cut : cut_of after ≡ Record (length payload)
+  recorded_cut = so.cut
 
   -- and it reads as a frame with these fields and no flips
-  pub recorded-read : frameRead (frameWith rules call (airIn after) (payloadIn (length payload) after))
-      ≡ record { answer = Accepted (headerFor rules.edition f payload) 0; patterns = replicate wordCount 0 }
-  recorded-read =
-      ap₂ (λ (air bytes : List ℕ). frameRead (frameWith rules call air bytes)) so.air so.payload-there
-      ∙ rules-then-reader (frameWith rules call _ payload) (headerFor rules.edition f payload) 0 (replicate wordCount 0)
-      (with-payload rules.edition f (frameWith rules call _ payload) 0 (replicate wordCount 0) (written-accepted rules f payload call so.writable allowed agrees))
+  pub recorded_read : frame_read (frame_with rules call (air_in after) (payload_in (length payload) after))
+      ≡ record { answer = Accepted (header_for rules.edition f payload) 0; patterns = replicate word_count 0 }
+  recorded_read =
+      ap₂ (λ (air bytes : List ℕ). frame_read (frame_with rules call air bytes)) so.air so.payload_there
+      ∙ rules_then_reader (frame_with rules call _ payload) (header_for rules.edition f payload) 0 (replicate word_count 0)
+      (with_payload rules.edition f (frame_with rules call _ payload) 0 (replicate word_count 0) (written_accepted rules f payload call so.writable allowed agrees))
 
 -- A payload that is too long to be held is refused as its part is, but for the length that 15 tells
-pub part-refused : (edition : Edition) (f : Fields) (part payload : List ℕ) (room : ℕ) → payloadLimit < length part → payloadLimit < length payload
-    → writeRecordOf edition f payload room ≡ wholeAnswer (length payload) (writeRecordOf edition f part room)
-part-refused = long-refused
+pub part_refused : (edition : Edition) (f : Fields) (part payload : List ℕ) (room : ℕ) → payload_limit < length part → payload_limit < length payload
+    → write_record_of edition f payload room ≡ whole_answer (length payload) (write_record_of edition f part room)
+part_refused = long_refused

@@ -14,66 +14,66 @@ use Rattle.base.specs.Checks.{Exactly}
 use Rattle.base.specs.Lists.{AreBits}
 use Rattle.base.proofs.First.{NoneApplies}
 use Rattle.header.specs.declared.Answer.TheVariants.{Refused as NotAccepted}
-use Rattle.header_reader.specs.Reading.{limitAbove42, not210Long, noBit}
+use Rattle.header_reader.specs.Reading.{limit_above42, not210_long, no_bit}
 use Rattle.marks.specs.declared.Mark.{Mark}
 use Rattle.marks.specs.declared.State.{State}
 use Rattle.marks.specs.declared.Verdict.TheVariants.{Refused}
-use Rattle.marks.specs.Marked.{marked, markAt, marksOf}
-use Rattle.marks.specs.Pieces.{longestRecording, pieceChecks, verdictOf, freshState, grown, allAfter, allBits}
+use Rattle.marks.specs.Marked.{marked, mark_at, marks_of}
+use Rattle.marks.specs.Pieces.{longest_recording, piece_checks, verdict_of, fresh_state, grown, all_after, all_bits}
 use Rattle.marks.specs.Reports.{MarkOf, Rising, Run}
 use Rattle.marks.proofs.Exactly.{given, only, ascending}
-use Rattle.marks.proofs.Cuts.{however-kept}
-use Rattle.marks.proofs.Runs.{Ran, a-run-exists, LeftOut, left_out, whole-taken}
-use Rattle.marks.proofs.Verdicts.{piece-exactly}
-use Rattle.search.specs.Reports.{markRead, reportOf, reportsOf}
-use Rattle.search.proofs.Given.{however-reported}
-use Rattle.search.proofs.Rows.{signalOf, never-20-1-2, never-23-24-7-8, refused-3-21-4-5-6}
+use Rattle.marks.proofs.Cuts.{however_kept}
+use Rattle.marks.proofs.Runs.{Ran, a_run_exists, LeftOut, left_out, whole_taken}
+use Rattle.marks.proofs.Verdicts.{piece_exactly}
+use Rattle.search.specs.Reports.{mark_read, report_of, reports_of}
+use Rattle.search.proofs.Given.{however_reported}
+use Rattle.search.proofs.Rows.{signal_of, never_20_1_2, never_23_24_7_8, refused_3_21_4_5_6}
 
 -- EACH PLACE, and no other; "each once, ascending"
 module _ (recording : List ℕ) where
-  pub every-place : (p : ℕ) → marked (drop p recording) ≡ true → Memᴰ (markAt p (drop p recording)) (marksOf recording)
-  every-place p is = rw zero-add at (given p 0 recording is)
+  pub every_place : (p : ℕ) → marked (drop p recording) ≡ true → Memᴰ (mark_at p (drop p recording)) (marks_of recording)
+  every_place p is = rw zero-add at (given p 0 recording is)
 
-  pub no-other-place : (m : Mark) → Memᴰ m (marksOf recording) → MarkOf 0 recording m
-  no-other-place m = only 0 recording m
+  pub no_other_place : (m : Mark) → Memᴰ m (marks_of recording) → MarkOf 0 recording m
+  no_other_place m = only 0 recording m
 
-  pub each-once-ascending : Rising 0 (marksOf recording)
-  each-once-ascending = ascending 0 recording
+  pub each_once_ascending : Rising 0 (marks_of recording)
+  each_once_ascending = ascending 0 recording
 
 -- HOWEVER IT IS CUT: the bits of the accepted pieces are the recording
-module _ (edition : Edition) (pieces : List (List ℕ)) (ms : List Mark) (run : Run freshState pieces ms) where
-  pub reports-of-the-whole : map (reportOf edition) ms ≡ reportsOf edition (allBits freshState pieces)
-  reports-of-the-whole = however-reported edition pieces ms run
+module _ (edition : Edition) (pieces : List (List ℕ)) (ms : List Mark) (run : Run fresh_state pieces ms) where
+  pub reports_of_the_whole : map (report_of edition) ms ≡ reports_of edition (all_bits fresh_state pieces)
+  reports_of_the_whole = however_reported edition pieces ms run
 
   -- and where all are bits, and not too many, that is all of them
-  pub reports-of-all : AreBits (flatten pieces) → length (flatten pieces) ≤ longestRecording → map (reportOf edition) ms ≡ reportsOf edition (flatten pieces)
-  reports-of-all bits room = reports-of-the-whole ∙ ap (reportsOf edition) (whole-taken pieces bits room)
+  pub reports_of_all : AreBits (flatten pieces) → length (flatten pieces) ≤ longest_recording → map (report_of edition) ms ≡ reports_of edition (flatten pieces)
+  reports_of_all bits room = reports_of_the_whole ∙ ap (reports_of edition) (whole_taken pieces bits room)
 
 -- and there is such a run, whatever the pieces are
-pub every-run : (pieces : List (List ℕ)) → Ran freshState pieces
-every-run = a-run-exists
+pub every_run : (pieces : List (List ℕ)) → Ran fresh_state pieces
+every_run = a_run_exists
 
 -- "the last 242 bits are kept between pieces"
-pub kept-between : (pieces : List (List ℕ)) → allAfter freshState pieces ≡ grown (allBits freshState pieces)
-kept-between = however-kept
+pub kept_between : (pieces : List (List ℕ)) → all_after fresh_state pieces ≡ grown (all_bits fresh_state pieces)
+kept_between = however_kept
 
 -- 19 and 37 are given exactly when the paper says; "state unchanged in both"
-pub piece-refused-exactly : (total : ℕ) (piece : List ℕ) (why : Refusal) → Exactly (verdictOf total piece) (Refused why) (pieceChecks total piece)
-piece-refused-exactly = piece-exactly
+pub piece_refused_exactly : (total : ℕ) (piece : List ℕ) (why : Refusal) → Exactly (verdict_of total piece) (Refused why) (piece_checks total piece)
+piece_refused_exactly = piece_exactly
 
-pub refused-leaves : (s : State) (piece : List ℕ) (why : Refusal) (pieces : List (List ℕ)) → verdictOf s.total piece ≡ Refused why → LeftOut s piece why pieces
-refused-leaves = left_out
+pub refused_leaves : (s : State) (piece : List ℕ) (why : Refusal) (pieces : List (List ℕ)) → verdict_of s.total piece ≡ Refused why → LeftOut s piece why pieces
+refused_leaves = left_out
 
 -- the checks 20, 1 and 2 never apply to a report
-pub no-20-1-2 : (edition : Edition) (recording : List ℕ) → AreBits recording → (m : Mark) → Memᴰ m (marksOf recording)
-    → NoneApplies (limitAbove42 (signalOf edition m) ∷ not210Long (signalOf edition m) ∷ noBit (signalOf edition m) ∷ [])
-no-20-1-2 = never-20-1-2
+pub no_20_1_2 : (edition : Edition) (recording : List ℕ) → AreBits recording → (m : Mark) → Memᴰ m (marks_of recording)
+    → NoneApplies (limit_above42 (signal_of edition m) ∷ not210_long (signal_of edition m) ∷ no_bit (signal_of edition m) ∷ [])
+no_20_1_2 = never_20_1_2
 
 -- no call sign is given and "Payloads aren't read here": of no mark at all is the header refused with 23, 24, 7 or 8
-pub no-23-24-7-8 : (edition : Edition) (m : Mark) (why : Refusal) → (markRead edition m).answer ≡ NotAccepted why → Memᴰ why.number (23 ∷ 24 ∷ 7 ∷ 8 ∷ []) → ⊥
-no-23-24-7-8 = never-23-24-7-8
+pub no_23_24_7_8 : (edition : Edition) (m : Mark) (why : Refusal) → (mark_read edition m).answer ≡ NotAccepted why → Memᴰ why.number (23 ∷ 24 ∷ 7 ∷ 8 ∷ []) → ⊥
+no_23_24_7_8 = never_23_24_7_8
 
 -- so the refusals of a report are 3, 21, 4, 5 and 6
-pub only-3-21-4-5-6 : (edition : Edition) (recording : List ℕ) → AreBits recording → (m : Mark) → Memᴰ m (marksOf recording) → (why : Refusal)
-    → (markRead edition m).answer ≡ NotAccepted why → Memᴰ why.number (3 ∷ 21 ∷ 4 ∷ 5 ∷ 6 ∷ [])
-only-3-21-4-5-6 = refused-3-21-4-5-6
+pub only_3_21_4_5_6 : (edition : Edition) (recording : List ℕ) → AreBits recording → (m : Mark) → Memᴰ m (marks_of recording) → (why : Refusal)
+    → (mark_read edition m).answer ≡ NotAccepted why → Memᴰ why.number (3 ∷ 21 ∷ 4 ∷ 5 ∷ 6 ∷ [])
+only_3_21_4_5_6 = refused_3_21_4_5_6

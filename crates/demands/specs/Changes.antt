@@ -3,25 +3,25 @@
 use Rattle.std.specs.Prelude.{◌≡◌, ℕ, ◌+◌, ◌^◌, ◌<◌}
 use Rattle.base.specs.declared.Edition.{Edition}
 use Rattle.base.specs.declared.Edition.TheVariants.{Flown}
-use Rattle.base.specs.Lists.{howMany}
-use Rattle.crc.specs.Crc5.{headerWidth, headerBit, changedIn, crc5Of, Counts}
-use Rattle.header.specs.Fields.{headerOf}
+use Rattle.base.specs.Lists.{how_many}
+use Rattle.crc.specs.Crc5.{header_width, header_bit, changed_in, crc5_of, Counts}
+use Rattle.header.specs.Fields.{header_of}
 
 -- "a header whose CRC5 is right": the one worked out is the one that it carries
 abbrev pub Right : Edition → ℕ → Type 0
-Right edition n = crc5Of edition n ≡ (headerOf n).«crc5»
+Right edition n = crc5_of edition n ≡ (header_of n).«crc5»
 
 -- how many of its 70 bits were changed
 unfoldable pub changes : ℕ → ℕ → ℕ
-changes n m = howMany headerWidth (changedIn n m)
+changes n m = how_many header_width (changed_in n m)
 
 -- none but bits 32 to 35, "those four", was changed
 abbrev pub FourAlone : ℕ → ℕ → Type 0
-FourAlone n m = (k : ℕ) → k < headerWidth → Counts Flown k → headerBit n k ≡ headerBit m k
+FourAlone n m = (k : ℕ) → k < header_width → Counts Flown k → header_bit n k ≡ header_bit m k
 
 -- a header of zeros with its CRC5, and the same with bits 0 and 17 changed
 abbrev pub zeros : ℕ
 zeros = 6
 
-abbrev pub twoChanged : ℕ
-twoChanged = 2 ^ 69 + 2 ^ 52 + 6
+abbrev pub two_changed : ℕ
+two_changed = 2 ^ 69 + 2 ^ 52 + 6

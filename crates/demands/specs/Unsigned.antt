@@ -2,22 +2,22 @@
 -- Assumes nothing.
 use Rattle.std.specs.Prelude.{List, [], ◌∷◌, ◌++◌}
 use Rattle.base.specs.Checks.{Check}
-use Rattle.air.specs.WordRepairs.{flipsIn}
+use Rattle.air.specs.WordRepairs.{flips_in}
 use Rattle.header.specs.declared.Answer.{Answer}
-use Rattle.header_reader.specs.Reading.{Signal, arrived, repairedBits, limitAbove42, not210Long, noBit, beyondRepair, flipsAboveLimit, crc5Differs, unknownSource, unknownCoding}
-use Rattle.frame.specs.Frames.{Frame, repairedHeader, payloadChecks}
+use Rattle.header_reader.specs.Reading.{Signal, arrived, repaired_bits, limit_above42, not210_long, no_bit, beyond_repair, flips_above_limit, crc5_differs, unknown_source, unknown_coding}
+use Rattle.frame.specs.Frames.{Frame, repaired_header, payload_checks}
 
-abbrev pub headerChecksBefore : Signal → List (Check Answer)
-headerChecksBefore s =
-    limitAbove42 s
-    ∷ not210Long s
-    ∷ noBit s
-    ∷ beyondRepair s
-    ∷ flipsAboveLimit s.rules (flipsIn (arrived s))
-    ∷ crc5Differs s.rules.edition (repairedBits s)
-    ∷ unknownSource s.rules.edition (repairedBits s)
-    ∷ unknownCoding (repairedBits s)
+abbrev pub header_checks_before : Signal → List (Check Answer)
+header_checks_before s =
+    limit_above42 s
+    ∷ not210_long s
+    ∷ no_bit s
+    ∷ beyond_repair s
+    ∷ flips_above_limit s.rules (flips_in (arrived s))
+    ∷ crc5_differs s.rules.edition (repaired_bits s)
+    ∷ unknown_source s.rules.edition (repaired_bits s)
+    ∷ unknown_coding (repaired_bits s)
     ∷ []
 
-abbrev pub frameChecksBefore : Frame → List (Check Answer)
-frameChecksBefore f = headerChecksBefore f.head ++ payloadChecks (repairedHeader f) f.payload
+abbrev pub frame_checks_before : Frame → List (Check Answer)
+frame_checks_before f = header_checks_before f.head ++ payload_checks (repaired_header f) f.payload

@@ -4,31 +4,31 @@ use mathlib.Core.Path.{◌≡◌, refl}
 use Prim.Native.Nat.{ℕ, ◌≤◌}
 use lib.ListN.{get_or}
 use Rattle.base.specs.declared.Refusal.{Refusal}
-use Rattle.base.proofs.Numbers.{Among, numbers, first-number}
-use Rattle.base.proofs.Sums.{sum-le}
-use Rattle.word.specs.Words.{flipCount}
+use Rattle.base.proofs.Numbers.{Among, numbers, first_number}
+use Rattle.base.proofs.Sums.{sum_le}
+use Rattle.word.specs.Words.{flip_count}
 use Rattle.word.specs.Repairs.{radius}
-use Rattle.air.specs.Air.{wordCount}
-use Rattle.air.proofs.Answers.{patterns-few}
-use Rattle.air.specs.Flips.{mostFlips}
+use Rattle.air.specs.Air.{word_count}
+use Rattle.air.proofs.Answers.{patterns_few}
+use Rattle.air.specs.Flips.{most_flips}
 use Rattle.header.specs.declared.Header.{Header}
 use Rattle.header.specs.declared.Answer.{Answer}
 use Rattle.header.specs.declared.Answer.TheVariants.{Accepted, Refused}
-use Rattle.header.specs.Fields.{lastSourceOf}
-use Rattle.header_reader.specs.Reading.{arrived, repairedAnswer, patternsOf}
-use Rattle.header_reader.proofs.GoesOn.{not-refused}
-use Rattle.frame.specs.Frames.{Frame, frameChecks, frameNumbers, frame_of}
-use Rattle.frame.proofs.Rules.{answer-then-rules}
+use Rattle.header.specs.Fields.{last_source_of}
+use Rattle.header_reader.specs.Reading.{arrived, repaired_answer, patterns_of}
+use Rattle.header_reader.proofs.GoesOn.{not_refused}
+use Rattle.frame.specs.Frames.{Frame, frame_checks, frame_numbers, frame_of}
+use Rattle.frame.proofs.Rules.{answer_then_rules}
 
 module _ (f : Frame) (h : Header) (k : ℕ) (e : frame_of f ≡ Accepted h k) where
-  pub frame-source : h.«fields».src_id ≤ lastSourceOf f.head.rules.edition
-  frame-source = (answer-then-rules f h k e).head.known-source
+  pub frame_source : h.«fields».src_id ≤ last_source_of f.head.rules.edition
+  frame_source = (answer_then_rules f h k e).head.known_source
 
   -- three flips in each of fourteen words
-  pub frame-flips : k ≤ mostFlips
-  frame-flips =
-      let so = answer-then-rules f h k e in
-      rw so.head.counted (sum-le radius wordCount (λ j. flipCount (get_or (patternsOf f.head) j 0)) (λ j below. patterns-few (arrived f.head) j))
+  pub frame_flips : k ≤ most_flips
+  frame_flips =
+      let so = answer_then_rules f h k e in
+      rw so.head.counted (sum_le radius word_count (λ j. flip_count (get_or (patterns_of f.head) j 0)) (λ j below. patterns_few (arrived f.head) j))
 
 -- the number of a refusal; 0 where there is none
 abbrev pub number_in : Answer → ℕ
@@ -36,9 +36,9 @@ number_in (Accepted h k) = 0
 number_in (Refused why) = why.number
 
 -- the numbers are those of the rows, in their order
-pub rows-numbered : (f : Frame) → numbers number_in (frameChecks f) ≡ frameNumbers
-rows-numbered f = refl
+pub rows_numbered : (f : Frame) → numbers number_in (frame_checks f) ≡ frame_numbers
+rows_numbered f = refl
 
-pub frame-number : (f : Frame) (why : Refusal) → frame_of f ≡ Refused why → Among why.number frameNumbers
+pub frame_number : (f : Frame) (why : Refusal) → frame_of f ≡ Refused why → Among why.number frame_numbers
 unfolding frame_of
-frame-number f why e = first-number number_in (repairedAnswer f.head) (Refused why) (frameChecks f) (not-refused f.head why) e
+frame_number f why e = first_number number_in (repaired_answer f.head) (Refused why) (frame_checks f) (not_refused f.head why) e

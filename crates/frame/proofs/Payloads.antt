@@ -8,49 +8,49 @@ use borrow.Author.Rules.{rules}
 use borrow.Author.Tests.{eq-eqb, ne_eqb}
 use Rattle.base.specs.declared.Refusal.{Refusal}
 use Rattle.base.specs.Checks.{first, refusal}
-use Rattle.base.proofs.First.{never_both, NoneApplies, none-split, first_passes}
-use Rattle.base.proofs.Tests.{not-differs}
-use Rattle.crc.specs.Crc.{crc13Of}
+use Rattle.base.proofs.First.{never_both, NoneApplies, none_split, first_passes}
+use Rattle.base.proofs.Tests.{not_differs}
+use Rattle.crc.specs.Crc.{crc13_of}
 use Rattle.sign.specs.Calls.{Call}
 use Rattle.header.specs.declared.Header.{Header}
 use Rattle.header.specs.declared.Read.{Read}
 use Rattle.header.specs.declared.Rules.{Rules}
 use Rattle.header.specs.declared.Answer.{Answer}
 use Rattle.header.specs.declared.Answer.TheVariants.{Accepted, Refused}
-use Rattle.air.specs.Air.{wordCount}
-use Rattle.header_reader.specs.Reading.{signalWith, signalChecks, repairedAnswer, readHeaderOf, patternsOf, headerRead}
+use Rattle.air.specs.Air.{word_count}
+use Rattle.header_reader.specs.Reading.{signal_with, signal_checks, repaired_answer, read_header_of, patterns_of, header_read}
 use Rattle.header.specs.Patterns.{beside}
-use Rattle.header.proofs.Beside.{beside-refused}
-use Rattle.header_reader.proofs.Beside.{read_answer, read-patterns}
-use Rattle.header_reader.proofs.GoesOn.{no_row, never-accepted, ReadAs, read_as, header_refused, header-leaves}
-use Rattle.frame.specs.Frames.{Frame, frameWith, repairedHeader, crc13Differs, payloadChecks, frameChecks, frame_of, frameRead}
+use Rattle.header.proofs.Beside.{beside_refused}
+use Rattle.header_reader.proofs.Beside.{read_answer, read_patterns}
+use Rattle.header_reader.proofs.GoesOn.{no_row, never_accepted, ReadAs, read_as, header_refused, header_leaves}
+use Rattle.frame.specs.Frames.{Frame, frame_with, repaired_header, crc13_differs, payload_checks, frame_checks, frame_of, frame_read}
 
 module _ (h : Header) (flips : ℕ) (payload : List ℕ) where
   abbrev judged : Answer
-  judged = first (Accepted h flips) (payloadChecks h payload)
+  judged = first (Accepted h flips) (payload_checks h payload)
 
-  pub gives-7 : (length payload ≡ h.pdu_length → ⊥) → Refused (refusal 7 h.pdu_length) ≡ judged
-  gives-7 differs = rw (ne_eqb (length payload) h.pdu_length differs)
+  pub gives_7 : (length payload ≡ h.pdu_length → ⊥) → Refused (refusal 7 h.pdu_length) ≡ judged
+  gives_7 differs = rw (ne_eqb (length payload) h.pdu_length differs)
 
-  module _ (same : length payload ≡ h.pdu_length) (crc : ℕ) (worked : crc ≡ crc13Of payload) where
-    past-7 : first (Accepted h flips) (crc13Differs h payload ∷ []) ≡ judged
-    past-7 = rw (eq-eqb (length payload) h.pdu_length same)
+  module _ (same : length payload ≡ h.pdu_length) (crc : ℕ) (worked : crc ≡ crc13_of payload) where
+    past_7 : first (Accepted h flips) (crc13_differs h payload ∷ []) ≡ judged
+    past_7 = rw (eq-eqb (length payload) h.pdu_length same)
 
-    pub gives-8 : (crc ≡ h.«crc13» → ⊥) → Refused (refusal 8 crc) ≡ judged
-    gives-8 differs = rw (← past-7, ← worked, ne_eqb crc h.«crc13» differs)
+    pub gives_8 : (crc ≡ h.«crc13» → ⊥) → Refused (refusal 8 crc) ≡ judged
+    gives_8 differs = rw (← past_7, ← worked, ne_eqb crc h.«crc13» differs)
 
     pub accepts : crc ≡ h.«crc13» → Accepted h flips ≡ judged
-    accepts equal = rw (← past-7, ← worked, eq-eqb crc h.«crc13» equal)
+    accepts equal = rw (← past_7, ← worked, eq-eqb crc h.«crc13» equal)
 
 -- rows 7 and 8 are past
 pub record PayloadPassed (h : Header) (payload : List ℕ) : Type 0 where
   pub same_length : length payload ≡ h.pdu_length
-  pub same-crc13 : crc13Of payload ≡ h.«crc13»
+  pub same_crc13 : crc13_of payload ≡ h.«crc13»
 
-payload-passed : (h : Header) (payload : List ℕ) → NoneApplies (payloadChecks h payload) → PayloadPassed h payload
-payload-passed h payload none = record {
-  same_length = not-differs (length payload) h.pdu_length none.0;
-  same-crc13 = not-differs (crc13Of payload) h.«crc13» none.1.0;
+payload_passed : (h : Header) (payload : List ℕ) → NoneApplies (payload_checks h payload) → PayloadPassed h payload
+payload_passed h payload none = record {
+  same_length = not_differs (length payload) h.pdu_length none.0;
+  same_crc13 = not_differs (crc13_of payload) h.«crc13» none.1.0;
 }
 
 -- a frame that is accepted: its header is, and its payload agrees with it
@@ -60,43 +60,43 @@ pub record FrameReadAs (f : Frame) (h : Header) (k : ℕ) : Type 0 where
 
 module _ (f : Frame) where
   -- a refused header refuses the frame
-  refused-head : (why : Refusal) → readHeaderOf f.head ≡ Refused why → frame_of f ≡ Refused why
+  refused_head : (why : Refusal) → read_header_of f.head ≡ Refused why → frame_of f ≡ Refused why
   unfolding frame_of
-  refused-head why e = header_refused f.head (payloadChecks (repairedHeader f) f.payload) why e
+  refused_head why e = header_refused f.head (payload_checks (repaired_header f) f.payload) why e
 
   module _ (h : Header) (k : ℕ) where
     -- an accepted one leaves it to the payload
-    left-to-payload : ReadAs f.head h k → frame_of f ≡ first (Accepted h k) (payloadChecks h f.payload)
+    left_to_payload : ReadAs f.head h k → frame_of f ≡ first (Accepted h k) (payload_checks h f.payload)
     unfolding frame_of
-    left-to-payload so =
-        let same : repairedHeader f ≡ h = cc so.is in
-        header-leaves f.head (payloadChecks (repairedHeader f) f.payload) so.passed
-        ∙ ap₂ (λ (x : Answer) (g : Header). first x (payloadChecks g f.payload)) so.is same
+    left_to_payload so =
+        let same : repaired_header f ≡ h = cc so.is in
+        header_leaves f.head (payload_checks (repaired_header f) f.payload) so.passed
+        ∙ ap₂ (λ (x : Answer) (g : Header). first x (payload_checks g f.payload)) so.is same
 
-    pub frame-reads : FrameReadAs f h k → frame_of f ≡ Accepted h k
-    frame-reads so = left-to-payload so.header ∙ sym (accepts h k f.payload so.payload.same_length (crc13Of f.payload) refl so.payload.same-crc13)
+    pub frame_reads : FrameReadAs f h k → frame_of f ≡ Accepted h k
+    frame_reads so = left_to_payload so.header ∙ sym (accepts h k f.payload so.payload.same_length (crc13_of f.payload) refl so.payload.same_crc13)
 
-    pub frame-read-as : frame_of f ≡ Accepted h k → FrameReadAs f h k
+    pub frame_read_as : frame_of f ≡ Accepted h k → FrameReadAs f h k
     unfolding frame_of
-    frame-read-as e =
-        let never = never_both (Accepted h k) (signalChecks f.head) (payloadChecks (repairedHeader f) f.payload) (never-accepted f.head h k) (search (rules, no_row)) in
-        let passed = first_passes (repairedAnswer f.head) (Accepted h k) (frameChecks f) never e in
-        let parts = none-split (signalChecks f.head) (payloadChecks (repairedHeader f) f.payload) passed.1 in
-        let same : repairedHeader f ≡ h = cc passed.0 in
-        record { header = record { is = passed.0; passed = parts.0 }; payload = rw same at (payload-passed (repairedHeader f) f.payload parts.1) }
+    frame_read_as e =
+        let never = never_both (Accepted h k) (signal_checks f.head) (payload_checks (repaired_header f) f.payload) (never_accepted f.head h k) (search (rules, no_row)) in
+        let passed = first_passes (repaired_answer f.head) (Accepted h k) (frame_checks f) never e in
+        let parts = none_split (signal_checks f.head) (payload_checks (repaired_header f) f.payload) passed.1 in
+        let same : repaired_header f ≡ h = cc passed.0 in
+        record { header = record { is = passed.0; passed = parts.0 }; payload = rw same at (payload_passed (repaired_header f) f.payload parts.1) }
 
 -- THE SAME, as the reader finds it: r is what was read of the header, and judged what is judged of the payload
-module _ (rules : Rules) (call : Call) (air payload : List ℕ) (read : Read) (is : read ≡ headerRead (signalWith rules call air)) where
-  pub frame_refused : (why : Refusal) → read.answer ≡ Refused why → ◌≡◌ {A = Read} (record { answer = Refused why; patterns = replicate wordCount 0 }) (frameRead (frameWith rules call air payload))
-  unfolding frameRead
+module _ (rules : Rules) (call : Call) (air payload : List ℕ) (read : Read) (is : read ≡ header_read (signal_with rules call air)) where
+  pub frame_refused : (why : Refusal) → read.answer ≡ Refused why → ◌≡◌ {A = Read} (record { answer = Refused why; patterns = replicate word_count 0 }) (frame_read (frame_with rules call air payload))
+  unfolding frame_read
   frame_refused why e =
-      beside-refused (patternsOf (signalWith rules call air)) (frame_of (frameWith rules call air payload)) why
-      (refused-head (frameWith rules call air payload) why (sym (read_answer (signalWith rules call air) read is) ∙ e))
+      beside_refused (patterns_of (signal_with rules call air)) (frame_of (frame_with rules call air payload)) why
+      (refused_head (frame_with rules call air payload) why (sym (read_answer (signal_with rules call air) read is) ∙ e))
 
-  pub frame-left : (h : Header) (k : ℕ) (judged : Answer) (r : Read) → read.answer ≡ Accepted h k → judged ≡ first (Accepted h k) (payloadChecks h payload)
-      → r ≡ beside read.patterns judged → r ≡ frameRead (frameWith rules call air payload)
-  unfolding frameRead
-  frame-left h k judged r e so made =
+  pub frame_left : (h : Header) (k : ℕ) (judged : Answer) (r : Read) → read.answer ≡ Accepted h k → judged ≡ first (Accepted h k) (payload_checks h payload)
+      → r ≡ beside read.patterns judged → r ≡ frame_read (frame_with rules call air payload)
+  unfolding frame_read
+  frame_left h k judged r e so made =
       made
-      ∙ ap₂ beside (read-patterns (signalWith rules call air) read is h k e)
-      (so ∙ sym (left-to-payload (frameWith rules call air payload) h k (read_as (signalWith rules call air) h k (sym (read_answer (signalWith rules call air) read is) ∙ e))))
+      ∙ ap₂ beside (read_patterns (signal_with rules call air) read is h k e)
+      (so ∙ sym (left_to_payload (frame_with rules call air payload) h k (read_as (signal_with rules call air) h k (sym (read_answer (signal_with rules call air) read is) ∙ e))))

@@ -5,11 +5,11 @@ use mathlib.Core.List.{List}
 use Prim.Native.Nat.{ℕ, ◌-◌}
 use native.Mathlib.Omega.{arith}
 use lib.ListN.{take, drop}
-use Rattle.record.specs.Records.{airIn, payloadStart, recordSize}
+use Rattle.record.specs.Records.{air_in, payload_start, record_size}
 use Rattle.header.specs.declared.Rules.{Rules}
 use Rattle.header.specs.declared.Read.{Read}
-use Rattle.frame.specs.Frames.{frame, frameRead}
-use Rattle.frame.specs.Recorded.{frameIn}
+use Rattle.frame.specs.Frames.{frame, frame_read}
+use Rattle.frame.specs.Recorded.{frame_in}
 
-pub reads : (rules : Rules) (l : List ℕ) (n : ℕ) (r : Read) → r ≡ frameRead (frame rules (airIn l) (take (recordSize n - payloadStart) (drop payloadStart l))) → r ≡ frameRead (frameIn rules n l)
-reads rules l n r is = let same : recordSize n - payloadStart ≡ n = omega arith in rw same at is
+pub reads : (rules : Rules) (l : List ℕ) (n : ℕ) (r : Read) → r ≡ frame_read (frame rules (air_in l) (take (record_size n - payload_start) (drop payload_start l))) → r ≡ frame_read (frame_in rules n l)
+reads rules l n r is = let same : record_size n - payload_start ≡ n = omega arith in rw same at is

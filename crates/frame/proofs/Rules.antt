@@ -10,49 +10,49 @@ use Rattle.base.proofs.Exactly.{exactly}
 use Rattle.header.specs.declared.Header.{Header}
 use Rattle.header.specs.declared.Read.{Read}
 use Rattle.header.specs.declared.Answer.TheVariants.{Accepted, Refused}
-use Rattle.header_reader.specs.Reading.{repairedAnswer, patternsOf}
+use Rattle.header_reader.specs.Reading.{repaired_answer, patterns_of}
 use Rattle.header.specs.Patterns.{beside}
-use Rattle.header.proofs.Beside.{beside-answer, beside-parts}
-use Rattle.header_reader.proofs.GoesOn.{not-refused}
-use Rattle.header_reader.proofs.Accepted.{rules-then-read, rules-then-patterns, read-then-rules}
-use Rattle.frame.specs.Frames.{Frame, frameChecks, frame_of, frameRead}
+use Rattle.header.proofs.Beside.{beside_answer, beside_parts}
+use Rattle.header_reader.proofs.GoesOn.{not_refused}
+use Rattle.header_reader.proofs.Accepted.{rules_then_read, rules_then_patterns, read_then_rules}
+use Rattle.frame.specs.Frames.{Frame, frame_checks, frame_of, frame_read}
 use Rattle.frame.specs.Accepting.{Accepts}
-use Rattle.frame.proofs.Payloads.{frame-reads, frame-read-as}
+use Rattle.frame.proofs.Payloads.{frame_reads, frame_read_as}
 
 module _ (f : Frame) (h : Header) (k : ℕ) where
   -- what the rules accept, the reader accepts
-  pub rules-then-reader : (patterns : List ℕ) → Accepts f h k patterns → frameRead f ≡ record { answer = Accepted h k; patterns = patterns }
-  unfolding frameRead
-  rules-then-reader patterns so =
-      ap₂ beside (rules-then-patterns f.head h k patterns so.head)
-      (frame-reads f h k (record { header = rules-then-read f.head h k patterns so.head; payload = record { same_length = so.same_length; same-crc13 = so.same-crc13 } }))
+  pub rules_then_reader : (patterns : List ℕ) → Accepts f h k patterns → frame_read f ≡ record { answer = Accepted h k; patterns = patterns }
+  unfolding frame_read
+  rules_then_reader patterns so =
+      ap₂ beside (rules_then_patterns f.head h k patterns so.head)
+      (frame_reads f h k (record { header = rules_then_read f.head h k patterns so.head; payload = record { same_length = so.same_length; same_crc13 = so.same_crc13 } }))
 
   -- what the reader accepts, the rules accept
-  pub answer-then-rules : frame_of f ≡ Accepted h k → Accepts f h k (patternsOf f.head)
-  answer-then-rules e =
-      let so = frame-read-as f h k e in
-      record { head = read-then-rules f.head h k so.header; same_length = so.payload.same_length; same-crc13 = so.payload.same-crc13 }
+  pub answer_then_rules : frame_of f ≡ Accepted h k → Accepts f h k (patterns_of f.head)
+  answer_then_rules e =
+      let so = frame_read_as f h k e in
+      record { head = read_then_rules f.head h k so.header; same_length = so.payload.same_length; same_crc13 = so.payload.same_crc13 }
 
-  pub reader-then-rules : (patterns : List ℕ) → frameRead f ≡ record { answer = Accepted h k; patterns = patterns } → Accepts f h k patterns
-  unfolding frameRead
-  reader-then-rules patterns e =
-      let parts = beside-parts (patternsOf f.head) (frame_of f) h k patterns e in
-      rw parts.1 at (answer-then-rules parts.0)
+  pub reader_then_rules : (patterns : List ℕ) → frame_read f ≡ record { answer = Accepted h k; patterns = patterns } → Accepts f h k patterns
+  unfolding frame_read
+  reader_then_rules patterns e =
+      let parts = beside_parts (patterns_of f.head) (frame_of f) h k patterns e in
+      rw parts.1 at (answer_then_rules parts.0)
 
 -- for whoever puts rows before the frame's
-pub frame-first : (f : Frame) → frame_of f ≡ first (repairedAnswer f.head) (frameChecks f)
+pub frame_first : (f : Frame) → frame_of f ≡ first (repaired_answer f.head) (frame_checks f)
 unfolding frame_of
-frame-first f = refl
+frame_first f = refl
 
 -- what was read of a frame: its answer, and the patterns beside it
-pub frame-read-is : (f : Frame) → frameRead f ≡ beside (patternsOf f.head) (frame_of f)
-unfolding frameRead
-frame-read-is f = refl
+pub frame_read_is : (f : Frame) → frame_read f ≡ beside (patterns_of f.head) (frame_of f)
+unfolding frame_read
+frame_read_is f = refl
 
-pub frame-answer : (f : Frame) (r : Read) → r ≡ frameRead f → r.answer ≡ frame_of f
-frame-answer f r is = ap (λ (x : Read). x.answer) (is ∙ frame-read-is f) ∙ beside-answer (patternsOf f.head) (frame_of f)
+pub frame_answer : (f : Frame) (r : Read) → r ≡ frame_read f → r.answer ≡ frame_of f
+frame_answer f r is = ap (λ (x : Read). x.answer) (is ∙ frame_read_is f) ∙ beside_answer (patterns_of f.head) (frame_of f)
 
 -- "given exactly when": each refusal where its own row applies and no row before it does
-pub refused-exactly : (f : Frame) (why : Refusal) → Exactly (frame_of f) (Refused why) (frameChecks f)
+pub refused_exactly : (f : Frame) (why : Refusal) → Exactly (frame_of f) (Refused why) (frame_checks f)
 unfolding frame_of
-refused-exactly f why = exactly (repairedAnswer f.head) (Refused why) (frameChecks f) (not-refused f.head why)
+refused_exactly f why = exactly (repaired_answer f.head) (Refused why) (frame_checks f) (not_refused f.head why)

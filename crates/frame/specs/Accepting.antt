@@ -2,7 +2,7 @@
 -- It is written from the paper's rules, and names no reader.
 -- Assumes nothing.
 use Rattle.std.specs.Prelude.{◌≡◌, List, ℕ, length}
-use Rattle.crc.specs.Crc.{crc13Of}
+use Rattle.crc.specs.Crc.{crc13_of}
 use Rattle.header.specs.declared.Header.{Header}
 use Rattle.header_reader.specs.Accepting.{AcceptsHeader}
 use Rattle.frame.specs.Frames.{Frame}
@@ -12,4 +12,4 @@ pub record Accepts (f : Frame) (header : Header) (flips : ℕ) (patterns : List 
   pub head : AcceptsHeader f.head header flips patterns
   -- and the checks of the paper's table, 7 and 8, do not apply
   pub same_length : length f.payload ≡ header.pdu_length
-  pub same-crc13 : crc13Of f.payload ≡ header.«crc13»
+  pub same_crc13 : crc13_of f.payload ≡ header.«crc13»

@@ -2,15 +2,15 @@
 -- Assumes nothing.
 use Rattle.std.specs.Prelude.{not, List, [], ◌∷◌, ◌++◌, ℕ, eqb, length, drop}
 use Rattle.base.specs.Checks.{Check, check, first, refusal}
-use Rattle.crc.specs.Crc.{crc13Of}
+use Rattle.crc.specs.Crc.{crc13_of}
 use Rattle.sign.specs.Calls.{Call}
 use Rattle.header.specs.declared.Header.{Header}
 use Rattle.header.specs.declared.Rules.{Rules}
 use Rattle.header.specs.declared.Read.{Read}
 use Rattle.header.specs.declared.Answer.{Answer}
 use Rattle.header.specs.declared.Answer.TheVariants.{Refused}
-use Rattle.header.specs.Fields.{headerOf}
-use Rattle.header_reader.specs.Reading.{Signal, signalWith, signal, signed, repairedBits, signalChecks, repairedAnswer, patternsOf}
+use Rattle.header.specs.Fields.{header_of}
+use Rattle.header_reader.specs.Reading.{Signal, signal_with, signal, signed, repaired_bits, signal_checks, repaired_answer, patterns_of}
 use Rattle.header.specs.Patterns.{beside}
 
 -- a frame as it is offered: what its header is read from, and its payload
@@ -22,44 +22,44 @@ abbrev pub frame : Rules → List ℕ → List ℕ → Frame
 frame rules air payload = record { head = signal rules air; payload = payload }
 
 -- and with call sign bits
-abbrev pub signedFrame : Rules → List ℕ → List ℕ → List ℕ → Frame
-signedFrame rules call air payload = record { head = signed rules call air; payload = payload }
+abbrev pub signed_frame : Rules → List ℕ → List ℕ → List ℕ → Frame
+signed_frame rules call air payload = record { head = signed rules call air; payload = payload }
 
 -- both: what was given of a call sign is named
-abbrev pub frameWith : Rules → Call → List ℕ → List ℕ → Frame
-frameWith rules call air payload = record { head = signalWith rules call air; payload = payload }
+abbrev pub frame_with : Rules → Call → List ℕ → List ℕ → Frame
+frame_with rules call air payload = record { head = signal_with rules call air; payload = payload }
 
 -- the header that its words are repaired to
-abbrev pub repairedHeader : Frame → Header
-repairedHeader f = headerOf (repairedBits f.head)
+abbrev pub repaired_header : Frame → Header
+repaired_header f = header_of (repaired_bits f.head)
 
 -- THE PAPER'S TABLE, rows 7 and 8: the payload, held against a header
 -- 7, "payload length is not PduLength": PduLength
-abbrev pub otherLength : Header → List ℕ → Check Answer
-otherLength h payload = check (not (eqb (length payload) h.pdu_length)) (Refused (refusal 7 h.pdu_length))
+abbrev pub other_length : Header → List ℕ → Check Answer
+other_length h payload = check (not (eqb (length payload) h.pdu_length)) (Refused (refusal 7 h.pdu_length))
 
 -- 8, "CRC13 differs": CRC13 worked out
-abbrev pub crc13Differs : Header → List ℕ → Check Answer
-crc13Differs h payload = check (not (eqb (crc13Of payload) h.«crc13»)) (Refused (refusal 8 (crc13Of payload)))
+abbrev pub crc13_differs : Header → List ℕ → Check Answer
+crc13_differs h payload = check (not (eqb (crc13_of payload) h.«crc13»)) (Refused (refusal 8 (crc13_of payload)))
 
-abbrev pub payloadChecks : Header → List ℕ → List (Check Answer)
-payloadChecks h payload = otherLength h payload ∷ crc13Differs h payload ∷ []
+abbrev pub payload_checks : Header → List ℕ → List (Check Answer)
+payload_checks h payload = other_length h payload ∷ crc13_differs h payload ∷ []
 
 -- all rows
-abbrev pub frameChecks : Frame → List (Check Answer)
-frameChecks f = signalChecks f.head ++ payloadChecks (repairedHeader f) f.payload
+abbrev pub frame_checks : Frame → List (Check Answer)
+frame_checks f = signal_checks f.head ++ payload_checks (repaired_header f) f.payload
 
 -- THE WHOLE ORDER at a glance: a sheet's two rows (17, 22), and then the frame's
-abbrev pub wholeOrder : List ℕ
-wholeOrder = 17 ∷ 22 ∷ 20 ∷ 1 ∷ 2 ∷ 23 ∷ 3 ∷ 21 ∷ 4 ∷ 5 ∷ 24 ∷ 6 ∷ 7 ∷ 8 ∷ []
+abbrev pub whole_order : List ℕ
+whole_order = 17 ∷ 22 ∷ 20 ∷ 1 ∷ 2 ∷ 23 ∷ 3 ∷ 21 ∷ 4 ∷ 5 ∷ 24 ∷ 6 ∷ 7 ∷ 8 ∷ []
 
-abbrev pub frameNumbers : List ℕ
-frameNumbers = drop 2 wholeOrder
+abbrev pub frame_numbers : List ℕ
+frame_numbers = drop 2 whole_order
 
 -- "Frame, in this order; the first that applies is given"
 unfoldable pub frame_of : Frame → Answer
-frame_of f = first (repairedAnswer f.head) (frameChecks f)
+frame_of f = first (repaired_answer f.head) (frame_checks f)
 
 -- the answer, and the patterns of the frame's words beside it
-unfoldable pub frameRead : Frame → Read
-frameRead f = beside (patternsOf f.head) (frame_of f)
+unfoldable pub frame_read : Frame → Read
+frame_read f = beside (patterns_of f.head) (frame_of f)

@@ -10,44 +10,44 @@ use Rattle.base.specs.declared.Refusal.{Refusal}
 use Rattle.base.specs.declared.Written.TheVariants.{Done, Refused}
 use Rattle.base.specs.declared.Edition.{Edition}
 use Rattle.base.specs.Checks.{Exactly, first, refusal}
-use Rattle.base.proofs.Exactly.{exactly, done-apart}
-use Rattle.air.specs.Air.{airBits, payloadLimit, airOf}
+use Rattle.base.proofs.Exactly.{exactly, done_apart}
+use Rattle.air.specs.Air.{air_bits, payload_limit, air_of}
 use Rattle.header.specs.declared.Fields.{Fields}
-use Rattle.header.specs.Fields.{fieldCount, values_of, codedOf}
-use Rattle.header.specs.Writing.{firstOver, outOfRange, longPayload, writeChecks, writeHeaderOf, bitsFor, airFor, HeaderWritten}
+use Rattle.header.specs.Fields.{field_count, values_of, coded_of}
+use Rattle.header.specs.Writing.{first_over, out_of_range, long_payload, write_checks, write_header_of, bits_for, air_for, HeaderWritten}
 
 -- the words that are sent are those of the header's bits
-pub sent-written : (edition : Edition) (f : Fields) (payload words out after : List ℕ) (n : ℕ) → words ≡ codedOf n → n ≡ bitsFor edition f payload → after ≡ airOf words ++ drop airBits out → after ≡ airFor edition f payload ++ drop airBits out
-unfolding airFor
-sent-written edition f payload words out after n coded is e = e ∙ ap (λ (l : List ℕ). airOf l ++ drop airBits out) (coded ∙ ap codedOf is)
+pub sent_written : (edition : Edition) (f : Fields) (payload words out after : List ℕ) (n : ℕ) → words ≡ coded_of n → n ≡ bits_for edition f payload → after ≡ air_of words ++ drop air_bits out → after ≡ air_for edition f payload ++ drop air_bits out
+unfolding air_for
+sent_written edition f payload words out after n coded is e = e ∙ ap (λ (l : List ℕ). air_of l ++ drop air_bits out) (coded ∙ ap coded_of is)
 
-pub ranges : (edition : Edition) (f : Fields) (over : ℕ) → over ≡ firstOver edition (values_of f) → fieldCount ≤ over → fieldCount ≤ firstOver edition (values_of f)
+pub ranges : (edition : Edition) (f : Fields) (over : ℕ) → over ≡ first_over edition (values_of f) → field_count ≤ over → field_count ≤ first_over edition (values_of f)
 ranges edition f over found within = rw found at within
 
 module _ (edition : Edition) (f : Fields) (payload out : List ℕ) where
-  pub gives-13 : length out < airBits → HeaderWritten edition f payload out (Refused (refusal 13 (length out))) out
-  unfolding writeHeaderOf
-  gives-13 h = record { answered = rw (lt-ltb (length out) airBits h); bytes = refl }
+  pub gives_13 : length out < air_bits → HeaderWritten edition f payload out (Refused (refusal 13 (length out))) out
+  unfolding write_header_of
+  gives_13 h = record { answered = rw (lt-ltb (length out) air_bits h); bytes = refl }
 
-  module _ (room : airBits ≤ length out) (over : ℕ) (found : over ≡ firstOver edition (values_of f)) where
-    pub past-13 : first Done (outOfRange edition f ∷ longPayload payload ∷ []) ≡ writeHeaderOf edition f payload (length out)
-    unfolding writeHeaderOf
-    past-13 = rw (le-ltb (length out) airBits room)
+  module _ (room : air_bits ≤ length out) (over : ℕ) (found : over ≡ first_over edition (values_of f)) where
+    pub past_13 : first Done (out_of_range edition f ∷ long_payload payload ∷ []) ≡ write_header_of edition f payload (length out)
+    unfolding write_header_of
+    past_13 = rw (le-ltb (length out) air_bits room)
 
-    pub gives-14 : over < fieldCount → HeaderWritten edition f payload out (Refused (refusal 14 over)) out
-    gives-14 h = record { answered = rw (← past-13, ← found, lt-ltb over fieldCount h); bytes = refl }
+    pub gives_14 : over < field_count → HeaderWritten edition f payload out (Refused (refusal 14 over)) out
+    gives_14 h = record { answered = rw (← past_13, ← found, lt-ltb over field_count h); bytes = refl }
 
-    module _ (within : fieldCount ≤ over) where
-      past-14 : first Done (longPayload payload ∷ []) ≡ writeHeaderOf edition f payload (length out)
-      past-14 = rw (← past-13, ← found, le-ltb over fieldCount within)
+    module _ (within : field_count ≤ over) where
+      past_14 : first Done (long_payload payload ∷ []) ≡ write_header_of edition f payload (length out)
+      past_14 = rw (← past_13, ← found, le-ltb over field_count within)
 
-      pub gives-15 : payloadLimit < length payload → HeaderWritten edition f payload out (Refused (refusal 15 (length payload))) out
-      gives-15 h = record { answered = rw (← past-14, lt-ltb payloadLimit (length payload) h); bytes = refl }
+      pub gives_15 : payload_limit < length payload → HeaderWritten edition f payload out (Refused (refusal 15 (length payload))) out
+      gives_15 h = record { answered = rw (← past_14, lt-ltb payload_limit (length payload) h); bytes = refl }
 
-      pub writes : length payload ≤ payloadLimit → (after : List ℕ) → after ≡ airFor edition f payload ++ drop airBits out → HeaderWritten edition f payload out Done after
-      writes h after e = record { answered = rw (← past-14, le-ltb payloadLimit (length payload) h); bytes = e }
+      pub writes : length payload ≤ payload_limit → (after : List ℕ) → after ≡ air_for edition f payload ++ drop air_bits out → HeaderWritten edition f payload out Done after
+      writes h after e = record { answered = rw (← past_14, le-ltb payload_limit (length payload) h); bytes = e }
 
 -- "given exactly when"
-pub write-exactly : (edition : Edition) (f : Fields) (payload : List ℕ) (room : ℕ) (why : Refusal) → Exactly (writeHeaderOf edition f payload room) (Refused why) (writeChecks edition f payload room)
-unfolding writeHeaderOf
-write-exactly edition f payload room why = exactly Done (Refused why) (writeChecks edition f payload room) (done-apart why)
+pub write_exactly : (edition : Edition) (f : Fields) (payload : List ℕ) (room : ℕ) (why : Refusal) → Exactly (write_header_of edition f payload room) (Refused why) (write_checks edition f payload room)
+unfolding write_header_of
+write_exactly edition f payload room why = exactly Done (Refused why) (write_checks edition f payload room) (done_apart why)

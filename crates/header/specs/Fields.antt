@@ -5,8 +5,8 @@ use Rattle.base.specs.declared.Edition.{Edition}
 use Rattle.base.specs.declared.Edition.TheVariants.{Flown, Corrected}
 use Rattle.base.specs.Lists.{tabulate}
 use Rattle.base.specs.Parts.{parts_of, joined}
-use Rattle.word.specs.Words.{data_of, encodeOf, positions}
-use Rattle.air.specs.Air.{wordCount}
+use Rattle.word.specs.Words.{data_of, encode_of, positions}
+use Rattle.air.specs.Air.{word_count}
 use Rattle.header.specs.declared.Fields.{Fields}
 use Rattle.header.specs.declared.Header.{Header}
 
@@ -17,11 +17,11 @@ abbrev pub widths : List ℕ
 widths = 7 ∷ 7 ∷ 4 ∷ 4 ∷ 4 ∷ 4 ∷ 4 ∷ 2 ∷ 1 ∷ 1 ∷ 1 ∷ 1 ∷ 1 ∷ 1 ∷ 10 ∷ 13 ∷ 5 ∷ []
 
 -- fields 0 to 13, those that a writer is handed
-abbrev pub fieldCount : ℕ
-fieldCount = 14
+abbrev pub field_count : ℕ
+field_count = 14
 
-abbrev pub fieldsFrom : List ℕ → Fields
-fieldsFrom l = record {
+abbrev pub fields_from : List ℕ → Fields
+fields_from l = record {
   src_id = get_or l 0 0;
   dst_id = get_or l 1 0;
   fr_cnt_tx = get_or l 2 0;
@@ -44,49 +44,49 @@ values_of f =
     ∷ f.dfc_id ∷ f.«caller» ∷ f.«arq» ∷ f.pdu_type_id ∷ f.bch_rq ∷ f.«hailing» ∷ f.ud_fl1 ∷ []
 
 -- all 17
-abbrev pub headerFrom : List ℕ → Header
-headerFrom l = record {
-  «fields» = fieldsFrom l;
+abbrev pub header_from : List ℕ → Header
+header_from l = record {
+  «fields» = fields_from l;
   pdu_length = get_or l 14 0;
   «crc13» = get_or l 15 0;
   «crc5» = get_or l 16 0;
 }
 
 -- the header with the bits n
-unfoldable pub headerOf : ℕ → Header
-headerOf n = headerFrom (parts_of widths n)
+unfoldable pub header_of : ℕ → Header
+header_of n = header_from (parts_of widths n)
 
 -- "SrcId 0 to 7"; "under the corrected edition all 128 are allowed"
-abbrev pub lastSourceOf : Edition → ℕ
-lastSourceOf Flown = 7
-lastSourceOf Corrected = 127
+abbrev pub last_source_of : Edition → ℕ
+last_source_of Flown = 7
+last_source_of Corrected = 127
 
 -- the last AiTypeSrc that is not refused
-abbrev pub lastCoding : ℕ
-lastCoding = 3
+abbrev pub last_coding : ℕ
+last_coding = 3
 
 -- "satellite A, B, C, D is SrcId div 2, radio is SrcId mod 2 plus 1"
-abbrev pub satelliteOf : ℕ → ℕ
-satelliteOf srcId = srcId / 2
+abbrev pub satellite_of : ℕ → ℕ
+satellite_of srcId = srcId / 2
 
-abbrev pub radioOf : ℕ → ℕ
-radioOf srcId = srcId % 2 + 1
+abbrev pub radio_of : ℕ → ℕ
+radio_of srcId = srcId % 2 + 1
 
 -- "Header bits 5j to 5j+4 are the data of word j, j from 0 to 13"
-abbrev pub dataWidths : List ℕ
-dataWidths = replicate wordCount 5
+abbrev pub data_widths : List ℕ
+data_widths = replicate word_count 5
 
 -- the bits of a header from its words
-unfoldable pub bitsOfWords : List ℕ → ℕ
-bitsOfWords words = joined dataWidths (map data_of words)
+unfoldable pub bits_of_words : List ℕ → ℕ
+bits_of_words words = joined data_widths (map data_of words)
 
 -- the data of word j of a header with the bits n, and the valid words that carry these bits
-unfoldable pub dataAt : ℕ → ℕ → ℕ
-dataAt n j = get_or (parts_of dataWidths n) j 0
+unfoldable pub data_at : ℕ → ℕ → ℕ
+data_at n j = get_or (parts_of data_widths n) j 0
 
-unfoldable pub codedOf : ℕ → List ℕ
-codedOf n = tabulate wordCount (λ j. encodeOf (dataAt n j))
+unfoldable pub coded_of : ℕ → List ℕ
+coded_of n = tabulate word_count (λ j. encode_of (data_at n j))
 
 -- "Bit 5j+t stands at position 14-t of its word", and so travels at air bit 14 (14 - t) + j
-abbrev pub travelsAt : ℕ → ℕ
-travelsAt k = wordCount * (positions - 1 - k % 5) + k / 5
+abbrev pub travels_at : ℕ → ℕ
+travels_at k = word_count * (positions - 1 - k % 5) + k / 5

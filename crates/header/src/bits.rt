@@ -2,14 +2,14 @@
 ghost use Rattle.std.specs.Prelude.{◌≡◌, map, ◌≤◌, length, replicate};
 ghost use Rattle.base.specs.Parts.{joined};
 ghost use Rattle.word.specs.Words.{data_of};
-ghost use Rattle.header.specs.HalfWidths.{halvesHeader};
+ghost use Rattle.header.specs.HalfWidths.{halves_header};
 
 use crate::{Fields, Header};
 use word::DATA_BIT;
 
 // The fields of header bits 0 to 29, `hi`, and 30 to 69, `lo`.
 pub fn unpack(hi: u64, lo: u64) -> Header
-    ensures { result ≡ halvesHeader hi lo }
+    ensures { result ≡ halves_header hi lo }
 {
     Header {
         fields: Fields {

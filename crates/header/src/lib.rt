@@ -2,9 +2,9 @@
 mod bits;
 
 ghost use Rattle.std.specs.Prelude.{◌≡◌, ◌+◌};
-ghost use Rattle.header.specs.Fields.{lastSourceOf, satelliteOf, radioOf};
+ghost use Rattle.header.specs.Fields.{last_source_of, satellite_of, radio_of};
 ghost use Rattle.header.specs.Patterns.{beside};
-ghost use Rattle.header.specs.Rules.{usualRules};
+ghost use Rattle.header.specs.Rules.{usual_rules};
 
 use air::WORD_COUNT;
 use base::{Edition, Refusal};
@@ -60,7 +60,7 @@ pub struct Rules {
 
 // The rules for a caller that names no limit.
 pub fn usual(edition: Edition) -> Rules
-    ensures { result ≡ usualRules edition }
+    ensures { result ≡ usual_rules edition }
 {
     Rules {
         edition,
@@ -70,7 +70,7 @@ pub fn usual(edition: Edition) -> Rules
 
 // The last SrcId that is not refused.
 pub fn last_source(edition: Edition) -> u8
-    ensures { result ≡ lastSourceOf edition }
+    ensures { result ≡ last_source_of edition }
 {
     match edition {
         Edition::Flown => LAST_FLOWN_SOURCE,
@@ -111,14 +111,14 @@ pub fn with_patterns(answer: Answer, patterns: [u16; WORD_COUNT]) -> Read
 
 // The satellite of a source: A to D are 0 to 3.
 pub fn satellite(src_id: u8) -> u8
-    ensures { result ≡ satelliteOf src_id }
+    ensures { result ≡ satellite_of src_id }
 {
     src_id / 2
 }
 
 // The radio of a source, 1 or 2.
 pub fn radio(src_id: u8) -> u8
-    ensures { result ≡ radioOf src_id }
+    ensures { result ≡ radio_of src_id }
 {
     src_id % 2 + 1
 }

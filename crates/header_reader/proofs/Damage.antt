@@ -11,75 +11,75 @@ use Rattle.base.specs.Lists.{AreBits}
 use Rattle.base.proofs.Sums.{sum_same}
 use Rattle.word.specs.Words.{distance}
 use Rattle.word.specs.Repairs.{radius}
-use Rattle.air.specs.Air.{wordCount, airBits, words_of}
+use Rattle.air.specs.Air.{word_count, air_bits, words_of}
 use Rattle.air.specs.Closeness.{AllClose, differences, distances}
-use Rattle.air.specs.Flips.{mostFlips, flipsBetween, flipsInWord, flipPatterns, Burst}
-use Rattle.air.proofs.Places.{words-at, words-lt}
-use Rattle.air.proofs.Restored.{restored-patterns}
-use Rattle.air.proofs.Flipped.{word-flips, all-flips, all-patterns}
-use Rattle.air.proofs.Bursts.{burst-few, burst-total}
-use Rattle.sign.specs.Calls.{Call, lookedAt, Agrees}
+use Rattle.air.specs.Flips.{most_flips, flips_between, flips_in_word, flip_patterns, Burst}
+use Rattle.air.proofs.Places.{words_at, words_lt}
+use Rattle.air.proofs.Restored.{restored_patterns}
+use Rattle.air.proofs.Flipped.{word_flips, all_flips, all_patterns}
+use Rattle.air.proofs.Bursts.{burst_few, burst_total}
+use Rattle.sign.specs.Calls.{Call, looked_at, Agrees}
 use Rattle.header.specs.declared.Fields.{Fields}
 use Rattle.header.specs.declared.Rules.{Rules}
-use Rattle.header.specs.Fields.{satelliteOf, codedOf}
-use Rattle.header_reader.specs.Reading.{signalWith}
-use Rattle.header.specs.Writing.{bitsFor, headerFor, airFor}
+use Rattle.header.specs.Fields.{satellite_of, coded_of}
+use Rattle.header_reader.specs.Reading.{signal_with}
+use Rattle.header.specs.Writing.{bits_for, header_for, air_for}
 use Rattle.header_reader.specs.Accepting.{AcceptsHeader}
-use Rattle.header.proofs.WrittenAir.{Writable, written-words, written-are-bits}
-use Rattle.header.proofs.Carried.{coded-valid}
-use Rattle.header_reader.proofs.RoundTrip.{header-restored}
-use Rattle.header_reader.proofs.Accepted.{read-then-rules}
+use Rattle.header.proofs.WrittenAir.{Writable, written_words, written_are_bits}
+use Rattle.header.proofs.Carried.{coded_valid}
+use Rattle.header_reader.proofs.RoundTrip.{header_restored}
+use Rattle.header_reader.proofs.Accepted.{read_then_rules}
 
 module _ (edition : Edition) (f : Fields) (payload air : List ℕ) (bits : AreBits air) where
   abbrev sent : List ℕ
-  sent = airFor edition f payload
+  sent = air_for edition f payload
 
   abbrev words : List ℕ
-  words = codedOf (bitsFor edition f payload)
+  words = coded_of (bits_for edition f payload)
 
   -- word by word, the places that differ
-  distance-at : (j : ℕ) → j < wordCount → distance (get_or (words_of air) j 0) (get_or words j 0) ≡ flipsInWord air sent j
-  distance-at j h =
-      ap₂ distance (words-at air j h) (ap (λ (l : List ℕ). get_or l j 0) (sym (written-words edition f payload)) ∙ words-at sent j h)
-      ∙ word-flips air sent bits (written-are-bits edition f payload) j
+  distance_at : (j : ℕ) → j < word_count → distance (get_or (words_of air) j 0) (get_or words j 0) ≡ flips_in_word air sent j
+  distance_at j h =
+      ap₂ distance (words_at air j h) (ap (λ (l : List ℕ). get_or l j 0) (sym (written_words edition f payload)) ∙ words_at sent j h)
+      ∙ word_flips air sent bits (written_are_bits edition f payload) j
 
-  damaged-close : ((j : ℕ) → j < wordCount → flipsInWord air sent j ≤ radius) → AllClose (words_of air) words
-  damaged-close few =
-      let valid = coded-valid (bitsFor edition f payload) in
-      record { long = valid.long; each = λ j h. record { valid = valid.each j h; near = rw (distance-at j h) (few j h) } }
+  damaged_close : ((j : ℕ) → j < word_count → flips_in_word air sent j ≤ radius) → AllClose (words_of air) words
+  damaged_close few =
+      let valid = coded_valid (bits_for edition f payload) in
+      record { long = valid.long; each = λ j h. record { valid = valid.each j h; near = rw (distance_at j h) (few j h) } }
 
-  pub damaged-flips : distances (words_of air) words ≡ flipsBetween air sent
-  damaged-flips = sum_same wordCount _ _ distance-at ∙ all-flips air sent
+  pub damaged_flips : distances (words_of air) words ≡ flips_between air sent
+  damaged_flips = sum_same word_count _ _ distance_at ∙ all_flips air sent
 
   -- and which they are
-  damaged-patterns : differences (words_of air) words ≡ flipPatterns air sent
-  damaged-patterns = ap (differences (words_of air)) (sym (written-words edition f payload)) ∙ all-patterns air sent bits (written-are-bits edition f payload)
+  damaged_patterns : differences (words_of air) words ≡ flip_patterns air sent
+  damaged_patterns = ap (differences (words_of air)) (sym (written_words edition f payload)) ∙ all_patterns air sent bits (written_are_bits edition f payload)
 
 -- read and written under one edition
-module _ (rules : Rules) (f : Fields) (payload air : List ℕ) (bits : AreBits air) (ok : Writable rules.edition f payload) (long : length air ≡ airBits)
-    (allowed : rules.limit ≤ mostFlips) (call : Call) (agrees : Agrees (lookedAt rules.edition call) (satelliteOf f.src_id)) where
+module _ (rules : Rules) (f : Fields) (payload air : List ℕ) (bits : AreBits air) (ok : Writable rules.edition f payload) (long : length air ≡ air_bits)
+    (allowed : rules.limit ≤ most_flips) (call : Call) (agrees : Agrees (looked_at rules.edition call) (satellite_of f.src_id)) where
   abbrev written : List ℕ
-  written = airFor rules.edition f payload
+  written = air_for rules.edition f payload
 
   -- that very header, the exact number of flips and the exact patterns
   abbrev pub Undone : Type 0
   Undone =
-      AcceptsHeader (signalWith rules call air) (headerFor rules.edition f payload) (flipsBetween air (airFor rules.edition f payload))
-      (flipPatterns air (airFor rules.edition f payload))
+      AcceptsHeader (signal_with rules call air) (header_for rules.edition f payload) (flips_between air (air_for rules.edition f payload))
+      (flip_patterns air (air_for rules.edition f payload))
 
   -- at most three flips in each word
-  pub few-accepted : ((j : ℕ) → j < wordCount → flipsInWord air (airFor rules.edition f payload) j ≤ radius) → flipsBetween air (airFor rules.edition f payload) ≤ rules.limit
+  pub few_accepted : ((j : ℕ) → j < word_count → flips_in_word air (air_for rules.edition f payload) j ≤ radius) → flips_between air (air_for rules.edition f payload) ≤ rules.limit
       → Undone
-  few-accepted few within =
+  few_accepted few within =
       let edition : Edition = rules.edition in
-      let valid : List ℕ = codedOf (bitsFor edition f payload) in
-      let close : AllClose (words_of air) valid = damaged-close edition f payload air bits few in
-      let flips : distances (words_of air) valid ≡ flipsBetween air written = damaged-flips edition f payload air bits in
-      rw (restored-patterns (words_of air) (words-lt air bits) valid close ∙ damaged-patterns edition f payload air bits) at
-      (read-then-rules (signalWith rules call air) (headerFor edition f payload) (flipsBetween air written)
-      (rw flips at (header-restored rules f payload ok allowed call agrees air long bits close (rw flips within))))
+      let valid : List ℕ = coded_of (bits_for edition f payload) in
+      let close : AllClose (words_of air) valid = damaged_close edition f payload air bits few in
+      let flips : distances (words_of air) valid ≡ flips_between air written = damaged_flips edition f payload air bits in
+      rw (restored_patterns (words_of air) (words_lt air bits) valid close ∙ damaged_patterns edition f payload air bits) at
+      (read_then_rules (signal_with rules call air) (header_for edition f payload) (flips_between air written)
+      (rw flips at (header_restored rules f payload ok allowed call agrees air long bits close (rw flips within))))
 
   -- a burst: all flips among so many neighbouring bits as the limit allows
-  pub burst-accepted : (start : ℕ) → Burst rules.limit start air (airFor rules.edition f payload) → Undone
-  burst-accepted start burst =
-      few-accepted (burst-few rules.limit start air written burst allowed) (burst-total rules.limit start air written burst)
+  pub burst_accepted : (start : ℕ) → Burst rules.limit start air (air_for rules.edition f payload) → Undone
+  burst_accepted start burst =
+      few_accepted (burst_few rules.limit start air written burst allowed) (burst_total rules.limit start air written burst)

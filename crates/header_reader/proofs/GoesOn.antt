@@ -7,13 +7,13 @@ use native.Mathlib.Omega.{arith}
 use borrow.Author.Rules.{rules}
 use Rattle.base.specs.declared.Refusal.{Refusal}
 use Rattle.base.specs.Checks.{Check, first}
-use Rattle.base.proofs.First.{Never, never_both, NoneApplies, first-append, first-stays, first_passes, first-none}
-use Rattle.air.specs.WordRepairs.{flipsIn}
+use Rattle.base.proofs.First.{Never, never_both, NoneApplies, first_append, first_stays, first_passes, first_none}
+use Rattle.air.specs.WordRepairs.{flips_in}
 use Rattle.header.specs.declared.Header.{Header}
 use Rattle.header.specs.declared.Answer.{Answer}
 use Rattle.header.specs.declared.Answer.TheVariants.{Accepted, Refused}
-use Rattle.header.specs.Fields.{headerOf}
-use Rattle.header_reader.specs.Reading.{Signal, arrived, repairedBits, airChecks, headerChecks, signalChecks, repairedAnswer, readHeaderOf}
+use Rattle.header.specs.Fields.{header_of}
+use Rattle.header_reader.specs.Reading.{Signal, arrived, repaired_bits, air_checks, header_checks, signal_checks, repaired_answer, read_header_of}
 
 pub apart : (h : Header) (k : ℕ) (why : Refusal) → Accepted h k ≡ Refused why → ⊥
 apart h k why e = let z : ◌≡◌ {A = ℕ} 0 1 = cc in omega arith
@@ -22,31 +22,31 @@ pub no_row : (h : Header) (k : ℕ) (why : Refusal) → Refused why ≡ Accepted
 no_row h k why e = apart h k why (sym e)
 
 module _ (s : Signal) where
-  pub not-refused : (why : Refusal) → repairedAnswer s ≡ Refused why → ⊥
-  not-refused why = apart (headerOf (repairedBits s)) (flipsIn (arrived s)) why
+  pub not_refused : (why : Refusal) → repaired_answer s ≡ Refused why → ⊥
+  not_refused why = apart (header_of (repaired_bits s)) (flips_in (arrived s)) why
 
   -- a header that is accepted has passed all rows, and no other answer is the accepted one
   pub record ReadAs (h : Header) (k : ℕ) : Type 0 where
-    pub is : repairedAnswer s ≡ Accepted h k
-    pub passed : NoneApplies (signalChecks s)
+    pub is : repaired_answer s ≡ Accepted h k
+    pub passed : NoneApplies (signal_checks s)
 
   -- the rows refuse
-  pub never-accepted : (h : Header) (k : ℕ) → Never (Accepted h k) (signalChecks s)
-  never-accepted h k = never_both (Accepted h k) (airChecks s) (headerChecks s.rules s.call (flipsIn (arrived s)) (repairedBits s)) (search (rules, no_row)) (search (rules, no_row))
+  pub never_accepted : (h : Header) (k : ℕ) → Never (Accepted h k) (signal_checks s)
+  never_accepted h k = never_both (Accepted h k) (air_checks s) (header_checks s.rules s.call (flips_in (arrived s)) (repaired_bits s)) (search (rules, no_row)) (search (rules, no_row))
 
-  pub read_as : (h : Header) (k : ℕ) → readHeaderOf s ≡ Accepted h k → ReadAs h k
-  unfolding readHeaderOf
+  pub read_as : (h : Header) (k : ℕ) → read_header_of s ≡ Accepted h k → ReadAs h k
+  unfolding read_header_of
   read_as h k e =
-      let passed = first_passes (repairedAnswer s) (Accepted h k) (signalChecks s) (never-accepted h k) e in
+      let passed = first_passes (repaired_answer s) (Accepted h k) (signal_checks s) (never_accepted h k) e in
       record { is = passed.0; passed = passed.1 }
 
   -- a header that is refused stays refused
-  pub header_refused : (more : List (Check Answer)) (why : Refusal) → readHeaderOf s ≡ Refused why → first (repairedAnswer s) (signalChecks s ++ more) ≡ Refused why
-  unfolding readHeaderOf
+  pub header_refused : (more : List (Check Answer)) (why : Refusal) → read_header_of s ≡ Refused why → first (repaired_answer s) (signal_checks s ++ more) ≡ Refused why
+  unfolding read_header_of
   header_refused more why e =
-      first-append (repairedAnswer s) (signalChecks s) more
-      ∙ first-stays (repairedAnswer s) (first (repairedAnswer s) more) (Refused why) (signalChecks s) (not-refused why) e
+      first_append (repaired_answer s) (signal_checks s) more
+      ∙ first_stays (repaired_answer s) (first (repaired_answer s) more) (Refused why) (signal_checks s) (not_refused why) e
 
   -- one that is accepted leaves the rows that follow
-  pub header-leaves : (more : List (Check Answer)) → NoneApplies (signalChecks s) → first (repairedAnswer s) (signalChecks s ++ more) ≡ first (repairedAnswer s) more
-  header-leaves more passed = first-append (repairedAnswer s) (signalChecks s) more ∙ first-none (first (repairedAnswer s) more) (signalChecks s) passed
+  pub header_leaves : (more : List (Check Answer)) → NoneApplies (signal_checks s) → first (repaired_answer s) (signal_checks s ++ more) ≡ first (repaired_answer s) more
+  header_leaves more passed = first_append (repaired_answer s) (signal_checks s) more ∙ first_none (first (repaired_answer s) more) (signal_checks s) passed

@@ -7,49 +7,49 @@ use lib.ListN.{length}
 use borrow.Author.Tests.{le-ltb, ltb-false}
 use Rattle.base.specs.Lists.{AreBits}
 use Rattle.base.proofs.First.{NoneApplies}
-use Rattle.base.proofs.Tests.{differs-not, not-differs}
-use Rattle.crc.specs.Crc5.{crc5Of}
-use Rattle.air.specs.Air.{wordCount, airBits, firstNoBit}
-use Rattle.air.specs.WordRepairs.{firstBeyond}
-use Rattle.air.specs.Flips.{mostFlips}
-use Rattle.air.proofs.Bits.{are-bits, no-bit-none, no-bit-le}
-use Rattle.air.proofs.Answers.{beyond-le}
-use Rattle.sign.specs.CallSigns.{signWidth}
-use Rattle.sign.specs.Calls.{Call, lookedAt, faultAt, otherAt}
+use Rattle.base.proofs.Tests.{differs_not, not_differs}
+use Rattle.crc.specs.Crc5.{crc5_of}
+use Rattle.air.specs.Air.{word_count, air_bits, first_no_bit}
+use Rattle.air.specs.WordRepairs.{first_beyond}
+use Rattle.air.specs.Flips.{most_flips}
+use Rattle.air.proofs.Bits.{are_bits, no_bit_none, no_bit_le}
+use Rattle.air.proofs.Answers.{beyond_le}
+use Rattle.sign.specs.CallSigns.{sign_width}
+use Rattle.sign.specs.Calls.{Call, looked_at, fault_at, other_at}
 use Rattle.header.specs.declared.Rules.{Rules}
-use Rattle.header.specs.Fields.{lastSourceOf, lastCoding, satelliteOf, headerOf}
-use Rattle.header_reader.specs.Reading.{Signal, arrived, airChecks, headerChecks}
+use Rattle.header.specs.Fields.{last_source_of, last_coding, satellite_of, header_of}
+use Rattle.header_reader.specs.Reading.{Signal, arrived, air_checks, header_checks}
 
 -- 20, 1, 2, 23, 3
 pub record AirPassed (s : Signal) : Type 0 where
-  pub allowed : s.rules.limit ≤ mostFlips
-  pub long : length s.air ≡ airBits
+  pub allowed : s.rules.limit ≤ most_flips
+  pub long : length s.air ≡ air_bits
   pub bits : AreBits s.air
-  pub sound-call : faultAt (lookedAt s.rules.edition s.call) ≡ signWidth
-  pub repairable : firstBeyond (arrived s) ≡ wordCount
+  pub sound_call : fault_at (looked_at s.rules.edition s.call) ≡ sign_width
+  pub repairable : first_beyond (arrived s) ≡ word_count
 
 module _ (s : Signal) where
-  pub air-passed : NoneApplies (airChecks s) → AirPassed s
-  air-passed none =
-      let long : length s.air ≡ airBits = not-differs (length s.air) airBits none.1.0 in
+  pub air_passed : NoneApplies (air_checks s) → AirPassed s
+  air_passed none =
+      let long : length s.air ≡ air_bits = not_differs (length s.air) air_bits none.1.0 in
       record {
-        allowed = ltb-false mostFlips s.rules.limit none.0;
+        allowed = ltb-false most_flips s.rules.limit none.0;
         long = long;
-        bits = are-bits s.air (omega (arith, long, no-bit-le s.air, ltb-false (firstNoBit s.air) airBits none.1.1.0));
-        sound-call = not-differs (faultAt (lookedAt s.rules.edition s.call)) signWidth none.1.1.1.0;
-        repairable = omega (arith, beyond-le (arrived s), ltb-false (firstBeyond (arrived s)) wordCount none.1.1.1.1.0);
+        bits = are_bits s.air (omega (arith, long, no_bit_le s.air, ltb-false (first_no_bit s.air) air_bits none.1.1.0));
+        sound_call = not_differs (fault_at (looked_at s.rules.edition s.call)) sign_width none.1.1.1.0;
+        repairable = omega (arith, beyond_le (arrived s), ltb-false (first_beyond (arrived s)) word_count none.1.1.1.1.0);
       }
 
-  pub air-passes : AirPassed s → NoneApplies (airChecks s)
-  air-passes so = (
-    le-ltb mostFlips s.rules.limit so.allowed,
+  pub air_passes : AirPassed s → NoneApplies (air_checks s)
+  air_passes so = (
+    le-ltb most_flips s.rules.limit so.allowed,
     (
-      differs-not (length s.air) airBits so.long,
+      differs_not (length s.air) air_bits so.long,
       (
-        le-ltb (firstNoBit s.air) airBits (omega (arith, so.long, no-bit-none s.air so.bits)),
+        le-ltb (first_no_bit s.air) air_bits (omega (arith, so.long, no_bit_none s.air so.bits)),
         (
-          differs-not (faultAt (lookedAt s.rules.edition s.call)) signWidth so.sound-call,
-          (le-ltb (firstBeyond (arrived s)) wordCount (omega (arith, so.repairable)), tt),
+          differs_not (fault_at (looked_at s.rules.edition s.call)) sign_width so.sound_call,
+          (le-ltb (first_beyond (arrived s)) word_count (omega (arith, so.repairable)), tt),
         ),
       ),
     ),
@@ -58,31 +58,31 @@ module _ (s : Signal) where
 -- 21, 4, 5, 24, 6
 pub record HeaderPassed (rules : Rules) (call : Call) (flips n : ℕ) : Type 0 where
   pub within : flips ≤ rules.limit
-  pub same-crc5 : crc5Of rules.edition n ≡ (headerOf n).«crc5»
-  pub known-source : (headerOf n).«fields».src_id ≤ lastSourceOf rules.edition
-  pub same_sign : signWidth ≤ otherAt (lookedAt rules.edition call) (satelliteOf (headerOf n).«fields».src_id)
-  pub known-coding : (headerOf n).«fields».ai_type_src ≤ lastCoding
+  pub same_crc5 : crc5_of rules.edition n ≡ (header_of n).«crc5»
+  pub known_source : (header_of n).«fields».src_id ≤ last_source_of rules.edition
+  pub same_sign : sign_width ≤ other_at (looked_at rules.edition call) (satellite_of (header_of n).«fields».src_id)
+  pub known_coding : (header_of n).«fields».ai_type_src ≤ last_coding
 
 module _ (rules : Rules) (call : Call) (flips n : ℕ) where
-  pub header-passed : NoneApplies (headerChecks rules call flips n) → HeaderPassed rules call flips n
-  header-passed none = record {
+  pub header_passed : NoneApplies (header_checks rules call flips n) → HeaderPassed rules call flips n
+  header_passed none = record {
     within = ltb-false rules.limit flips none.0;
-    same-crc5 = not-differs (crc5Of rules.edition n) (headerOf n).«crc5» none.1.0;
-    known-source = ltb-false (lastSourceOf rules.edition) (headerOf n).«fields».src_id none.1.1.0;
-    same_sign = ltb-false (otherAt (lookedAt rules.edition call) (satelliteOf (headerOf n).«fields».src_id)) signWidth none.1.1.1.0;
-    known-coding = ltb-false lastCoding (headerOf n).«fields».ai_type_src none.1.1.1.1.0;
+    same_crc5 = not_differs (crc5_of rules.edition n) (header_of n).«crc5» none.1.0;
+    known_source = ltb-false (last_source_of rules.edition) (header_of n).«fields».src_id none.1.1.0;
+    same_sign = ltb-false (other_at (looked_at rules.edition call) (satellite_of (header_of n).«fields».src_id)) sign_width none.1.1.1.0;
+    known_coding = ltb-false last_coding (header_of n).«fields».ai_type_src none.1.1.1.1.0;
   }
 
-  pub header-passes : HeaderPassed rules call flips n → NoneApplies (headerChecks rules call flips n)
-  header-passes so = (
+  pub header_passes : HeaderPassed rules call flips n → NoneApplies (header_checks rules call flips n)
+  header_passes so = (
     le-ltb rules.limit flips so.within,
     (
-      differs-not (crc5Of rules.edition n) (headerOf n).«crc5» so.same-crc5,
+      differs_not (crc5_of rules.edition n) (header_of n).«crc5» so.same_crc5,
       (
-        le-ltb (lastSourceOf rules.edition) (headerOf n).«fields».src_id so.known-source,
+        le-ltb (last_source_of rules.edition) (header_of n).«fields».src_id so.known_source,
         (
-          le-ltb (otherAt (lookedAt rules.edition call) (satelliteOf (headerOf n).«fields».src_id)) signWidth so.same_sign,
-          (le-ltb lastCoding (headerOf n).«fields».ai_type_src so.known-coding, tt),
+          le-ltb (other_at (looked_at rules.edition call) (satellite_of (header_of n).«fields».src_id)) sign_width so.same_sign,
+          (le-ltb last_coding (header_of n).«fields».ai_type_src so.known_coding, tt),
         ),
       ),
     ),

@@ -9,91 +9,91 @@ use lib.ListN.{length, get_or, replicate}
 use borrow.Author.Tests.{eq-eqb, ne_eqb, lt-ltb, le-ltb}
 use Rattle.base.specs.Checks.{Check, first, refusal}
 use Rattle.base.specs.Lists.{AreBits}
-use Rattle.word.specs.Words.{wordLimit}
+use Rattle.word.specs.Words.{word_limit}
 use Rattle.air.specs.declared.RepairedWords.{RepairedWords}
-use Rattle.air.specs.Air.{airBits, wordCount, words_of, firstNoBit}
-use Rattle.air.specs.WordRepairs.{firstBeyond, flipsIn, repairWordsOf}
-use Rattle.air.specs.Flips.{mostFlips}
-use Rattle.air.proofs.Bits.{no-bit-none, are-bits, no-bit-le}
-use Rattle.air.proofs.Answers.{AllRepaired, told-beyond, told-all, repaired-words}
-use Rattle.sign.specs.CallSigns.{signWidth}
-use Rattle.sign.specs.Calls.{Call, lookedAt, faultAt}
+use Rattle.air.specs.Air.{air_bits, word_count, words_of, first_no_bit}
+use Rattle.air.specs.WordRepairs.{first_beyond, flips_in, repair_words_of}
+use Rattle.air.specs.Flips.{most_flips}
+use Rattle.air.proofs.Bits.{no_bit_none, are_bits, no_bit_le}
+use Rattle.air.proofs.Answers.{AllRepaired, told_beyond, told_all, repaired_words}
+use Rattle.sign.specs.CallSigns.{sign_width}
+use Rattle.sign.specs.Calls.{Call, looked_at, fault_at}
 use Rattle.header.specs.declared.Read.{Read}
 use Rattle.header.specs.declared.Rules.{Rules}
 use Rattle.header.specs.declared.Answer.{Answer}
 use Rattle.header.specs.declared.Answer.TheVariants.{Refused}
-use Rattle.header.specs.Fields.{bitsOfWords}
-use Rattle.header_reader.specs.Reading.{Signal, signalWith, arrived, repairedBits, not210Long, noBit, noCallSign, beyondRepair, headerChecks, judgedOf, repairedAnswer, readHeaderOf, headerRead}
+use Rattle.header.specs.Fields.{bits_of_words}
+use Rattle.header_reader.specs.Reading.{Signal, signal_with, arrived, repaired_bits, not210_long, no_bit, no_call_sign, beyond_repair, header_checks, judged_of, repaired_answer, read_header_of, header_read}
 use Rattle.header.specs.Patterns.{beside}
 
 module _ (rules : Rules) (call : Call) (air : List ℕ) where
   abbrev s : Signal
-  s = signalWith rules call air
+  s = signal_with rules call air
 
   abbrev given : List (Check Answer) → Answer
-  given rows = first (repairedAnswer s) rows
+  given rows = first (repaired_answer s) rows
 
-  abbrev fromHeader : List (Check Answer)
-  fromHeader = headerChecks rules call (flipsIn (arrived s)) (repairedBits s)
+  abbrev from_header : List (Check Answer)
+  from_header = header_checks rules call (flips_in (arrived s)) (repaired_bits s)
 
   -- a refusal has no patterns beside it: r is the one that was made
-  module _ (r : Read) (number place : ℕ) (made : r ≡ beside (replicate wordCount 0) (Refused (refusal number place))) where
-    alone : Refused (refusal number place) ≡ readHeaderOf (signalWith rules call air) → r ≡ headerRead (signalWith rules call air)
-    unfolding headerRead
+  module _ (r : Read) (number place : ℕ) (made : r ≡ beside (replicate word_count 0) (Refused (refusal number place))) where
+    alone : Refused (refusal number place) ≡ read_header_of (signal_with rules call air) → r ≡ header_read (signal_with rules call air)
+    unfolding header_read
     alone e = rw (made, ← e)
 
-  refuses-20 : mostFlips < rules.limit → Refused (refusal 20 rules.limit) ≡ readHeaderOf (signalWith rules call air)
-  unfolding readHeaderOf
-  refuses-20 above = rw (lt-ltb mostFlips rules.limit above)
+  refuses_20 : most_flips < rules.limit → Refused (refusal 20 rules.limit) ≡ read_header_of (signal_with rules call air)
+  unfolding read_header_of
+  refuses_20 above = rw (lt-ltb most_flips rules.limit above)
 
-  pub gives-20 : (r : Read) → r ≡ beside (replicate wordCount 0) (Refused (refusal 20 rules.limit)) → mostFlips < rules.limit → r ≡ headerRead (signalWith rules call air)
-  gives-20 r made above = alone r 20 rules.limit made (refuses-20 above)
+  pub gives_20 : (r : Read) → r ≡ beside (replicate word_count 0) (Refused (refusal 20 rules.limit)) → most_flips < rules.limit → r ≡ header_read (signal_with rules call air)
+  gives_20 r made above = alone r 20 rules.limit made (refuses_20 above)
 
-  module _ (allowed : rules.limit ≤ mostFlips) where
-    past-20 : given (not210Long s ∷ noBit s ∷ noCallSign s ∷ beyondRepair s ∷ fromHeader) ≡ readHeaderOf (signalWith rules call air)
-    unfolding readHeaderOf
-    past-20 = rw (le-ltb mostFlips rules.limit allowed)
+  module _ (allowed : rules.limit ≤ most_flips) where
+    past_20 : given (not210_long s ∷ no_bit s ∷ no_call_sign s ∷ beyond_repair s ∷ from_header) ≡ read_header_of (signal_with rules call air)
+    unfolding read_header_of
+    past_20 = rw (le-ltb most_flips rules.limit allowed)
 
-    pub gives-1 : (r : Read) → r ≡ beside (replicate wordCount 0) (Refused (refusal 1 (length air))) → (length air ≡ airBits → ⊥) → r ≡ headerRead (signalWith rules call air)
-    gives-1 r made differs = alone r 1 (length air) made (rw (← past-20, ne_eqb (length air) airBits differs))
+    pub gives_1 : (r : Read) → r ≡ beside (replicate word_count 0) (Refused (refusal 1 (length air))) → (length air ≡ air_bits → ⊥) → r ≡ header_read (signal_with rules call air)
+    gives_1 r made differs = alone r 1 (length air) made (rw (← past_20, ne_eqb (length air) air_bits differs))
 
-    module _ (long : length air ≡ airBits) where
-      past-1 : given (noBit s ∷ noCallSign s ∷ beyondRepair s ∷ fromHeader) ≡ readHeaderOf (signalWith rules call air)
-      past-1 = rw (← past-20, eq-eqb (length air) airBits long)
+    module _ (long : length air ≡ air_bits) where
+      past_1 : given (no_bit s ∷ no_call_sign s ∷ beyond_repair s ∷ from_header) ≡ read_header_of (signal_with rules call air)
+      past_1 = rw (← past_20, eq-eqb (length air) air_bits long)
 
-      pub gives-2 : (r : Read) (at : ℕ) → r ≡ beside (replicate wordCount 0) (Refused (refusal 2 at)) → at ≡ firstNoBit air → at < airBits → r ≡ headerRead (signalWith rules call air)
-      gives-2 r at made is h = alone r 2 at made (rw (← past-1, ← is, lt-ltb at airBits h))
+      pub gives_2 : (r : Read) (at : ℕ) → r ≡ beside (replicate word_count 0) (Refused (refusal 2 at)) → at ≡ first_no_bit air → at < air_bits → r ≡ header_read (signal_with rules call air)
+      gives_2 r at made is h = alone r 2 at made (rw (← past_1, ← is, lt-ltb at air_bits h))
 
       module _ (bits : AreBits air) where
-        past-2 : given (noCallSign s ∷ beyondRepair s ∷ fromHeader) ≡ readHeaderOf (signalWith rules call air)
-        past-2 = rw (← past-1, le-ltb (firstNoBit air) airBits (omega (arith, long, no-bit-none air bits)))
+        past_2 : given (no_call_sign s ∷ beyond_repair s ∷ from_header) ≡ read_header_of (signal_with rules call air)
+        past_2 = rw (← past_1, le-ltb (first_no_bit air) air_bits (omega (arith, long, no_bit_none air bits)))
 
-        pub gives-23 : (r : Read) (at : ℕ) → r ≡ beside (replicate wordCount 0) (Refused (refusal 23 at)) → at ≡ faultAt (lookedAt rules.edition call) → (at ≡ signWidth → ⊥) → r ≡ headerRead (signalWith rules call air)
-        gives-23 r at made is differs = alone r 23 at made (rw (← past-2, ← is, ne_eqb at signWidth differs))
+        pub gives_23 : (r : Read) (at : ℕ) → r ≡ beside (replicate word_count 0) (Refused (refusal 23 at)) → at ≡ fault_at (looked_at rules.edition call) → (at ≡ sign_width → ⊥) → r ≡ header_read (signal_with rules call air)
+        gives_23 r at made is differs = alone r 23 at made (rw (← past_2, ← is, ne_eqb at sign_width differs))
 
-        module _ (sound : faultAt (lookedAt rules.edition call) ≡ signWidth) (m : RepairedWords) (words : List ℕ) (is : m ≡ repairWordsOf words) (gathered : words ≡ words_of air) where
-          past-23 : given (beyondRepair s ∷ fromHeader) ≡ readHeaderOf (signalWith rules call air)
-          past-23 = rw (← past-2, eq-eqb (faultAt (lookedAt rules.edition call)) signWidth sound)
+        module _ (sound : fault_at (looked_at rules.edition call) ≡ sign_width) (m : RepairedWords) (words : List ℕ) (is : m ≡ repair_words_of words) (gathered : words ≡ words_of air) where
+          past_23 : given (beyond_repair s ∷ from_header) ≡ read_header_of (signal_with rules call air)
+          past_23 = rw (← past_2, eq-eqb (fault_at (looked_at rules.edition call)) sign_width sound)
 
-          pub gives-3 : (r : Read) → r ≡ beside (replicate wordCount 0) (Refused (refusal 3 m.beyond)) → m.beyond < wordCount → r ≡ headerRead (signalWith rules call air)
-          gives-3 r made h =
-              let lowest : m.beyond ≡ firstBeyond (arrived s) = rw gathered at (told-beyond words m is) in
-              alone r 3 m.beyond made (rw (← past-23, ← lowest, lt-ltb m.beyond wordCount h))
+          pub gives_3 : (r : Read) → r ≡ beside (replicate word_count 0) (Refused (refusal 3 m.beyond)) → m.beyond < word_count → r ≡ header_read (signal_with rules call air)
+          gives_3 r made h =
+              let lowest : m.beyond ≡ first_beyond (arrived s) = rw gathered at (told_beyond words m is) in
+              alone r 3 m.beyond made (rw (← past_23, ← lowest, lt-ltb m.beyond word_count h))
 
-          pub leaves : wordCount ≤ m.beyond → (judged : Answer) (r : Read) → judged ≡ judgedOf rules call m.flips (bitsOfWords m.words)
-              → r ≡ beside m.patterns judged → r ≡ headerRead (signalWith rules call air)
-          unfolding headerRead
+          pub leaves : word_count ≤ m.beyond → (judged : Answer) (r : Read) → judged ≡ judged_of rules call m.flips (bits_of_words m.words)
+              → r ≡ beside m.patterns judged → r ≡ header_read (signal_with rules call air)
+          unfolding header_read
           leaves h judged r e made =
-              let so : AllRepaired (arrived s) m = rw gathered at (told-all words m is h) in
-              let same : judged ≡ readHeaderOf (signalWith rules call air) = rw (← past-23, e, so.all, so.counted, le-ltb (firstBeyond (arrived s)) wordCount (omega (arith, so.none-beyond))) in
+              let so : AllRepaired (arrived s) m = rw gathered at (told_all words m is h) in
+              let same : judged ≡ read_header_of (signal_with rules call air) = rw (← past_23, e, so.all, so.counted, le-ltb (first_beyond (arrived s)) word_count (omega (arith, so.none_beyond))) in
               made ∙ ap₂ beside so.patterned same
 
 -- the words that are left for the rows that follow
-pub repaired : (m : RepairedWords) (words : List ℕ) → m ≡ repairWordsOf words → wordCount ≤ m.beyond → (k : ℕ) → get_or m.words k 0 < wordLimit
-repaired m words is h k = rw (told-all words m is h).all (repaired-words words k)
+pub repaired : (m : RepairedWords) (words : List ℕ) → m ≡ repair_words_of words → word_count ≤ m.beyond → (k : ℕ) → get_or m.words k 0 < word_limit
+repaired m words is h k = rw (told_all words m is h).all (repaired_words words k)
 
-pub no-fault : (call : Call) (at : ℕ) → at ≡ faultAt call → at ≡ signWidth → faultAt call ≡ signWidth
-no-fault call at is long = sym is ∙ long
+pub no_fault : (call : Call) (at : ℕ) → at ≡ fault_at call → at ≡ sign_width → fault_at call ≡ sign_width
+no_fault call at is long = sym is ∙ long
 
-pub all-bits : (air : List ℕ) → length air ≡ airBits → (at : ℕ) → at ≡ firstNoBit air → airBits ≤ at → AreBits air
-all-bits air long at is h = are-bits air (omega (arith, long, is, no-bit-le air))
+pub all_bits_lem : (air : List ℕ) → length air ≡ air_bits → (at : ℕ) → at ≡ first_no_bit air → air_bits ≤ at → AreBits air
+all_bits_lem air long at is h = are_bits air (omega (arith, long, is, no_bit_le air))

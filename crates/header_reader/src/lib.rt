@@ -2,15 +2,15 @@
 // fields are judged.
 ghost use Rattle.std.specs.Prelude.{◌≡◌, ℕ, ◌<◌, ◌≤◌, ◌^◌, length, get_or, replicate};
 ghost use Rattle.base.specs.Checks.{refusal};
-ghost use Rattle.word.specs.Words.{wordLimit};
+ghost use Rattle.word.specs.Words.{word_limit};
 ghost use Rattle.word.specs.Repairs.{syndromes};
-ghost use Rattle.crc.specs.Halves.{headerBits, hiWidth, loWidth};
-ghost use Rattle.air.specs.Air.{wordCount, airBits};
-ghost use Rattle.air.specs.Flips.{mostFlips};
+ghost use Rattle.crc.specs.Halves.{header_bits, hi_width, lo_width};
+ghost use Rattle.air.specs.Air.{word_count, air_bits};
+ghost use Rattle.air.specs.Flips.{most_flips};
 ghost use Rattle.sign.specs.Calls.{call_of};
-ghost use Rattle.header.specs.Fields.{bitsOfWords};
+ghost use Rattle.header.specs.Fields.{bits_of_words};
 ghost use Rattle.header.specs.Patterns.{beside};
-ghost use Rattle.header_reader.specs.Reading.{signalWith, signal, signed, judgedOf, headerRead};
+ghost use Rattle.header_reader.specs.Reading.{signal_with, signal, signed, judged_of, header_read};
 
 use air::{AIR_BITS, MOST_FLIPS, WORD_COUNT};
 use base::{
@@ -32,9 +32,9 @@ fn not_judged(number: u8, place: usize) -> Answer
 
 // Checks 21, 4, 5, 24 and 6 on the bits of a repaired header; `given` says whether call sign bits are given, and `call` which.
 fn judge(rules: Rules, given: bool, call: &[u8], flips: u32, hi: u64, lo: u64) -> Answer
-    requires hi_bound { hi < 2 ^ hiWidth }
-    requires lo_bound { lo < 2 ^ loWidth }
-    ensures { result ≡ judgedOf rules (call_of given call.now) flips (headerBits hi lo) }
+    requires hi_bound { hi < 2 ^ hi_width }
+    requires lo_bound { lo < 2 ^ lo_width }
+    ensures { result ≡ judged_of rules (call_of given call.now) flips (header_bits hi lo) }
 {
     if rules.limit < flips {
         return not_judged(FLIPS_ABOVE_LIMIT, flips as usize);
@@ -71,8 +71,8 @@ fn judge_words(
     flips: u32,
     words: [u16; WORD_COUNT],
 ) -> Answer
-    requires { (k : ℕ) → get_or words k 0 < wordLimit }
-    ensures { result ≡ judgedOf rules (call_of given call.now) flips (bitsOfWords words) }
+    requires { (k : ℕ) → get_or words k 0 < word_limit }
+    ensures { result ≡ judged_of rules (call_of given call.now) flips (bits_of_words words) }
 {
     let hi = collect(&words[0..HI_WORDS]);
     let lo = collect(&words[HI_WORDS..WORD_COUNT]);
@@ -81,7 +81,7 @@ fn judge_words(
 
 // A refusal, with no patterns.
 fn refused(number: u8, place: usize) -> Read
-    ensures { result ≡ beside (replicate wordCount 0) (Answer.Refused (refusal number place)) }
+    ensures { result ≡ beside (replicate word_count 0) (Answer.Refused (refusal number place)) }
 {
     Read {
         answer: Answer::Refused(Refusal { number, place }),
@@ -92,9 +92,9 @@ fn refused(number: u8, place: usize) -> Read
 // Checks 2, 23, 3, 21, 4, 5, 24 and 6 on 210 bytes.
 fn read_bits(table: &[u16; TABLE_ROWS], rules: Rules, given: bool, call: &[u8], air: &[u8]) -> Read
     requires table_value { table.now ≡ syndromes }
-    requires limit_le_most_flips { rules.limit ≤ mostFlips }
-    requires air_len { length air.now ≡ airBits }
-    ensures { result ≡ headerRead (signalWith rules (call_of given call.now) air.now) }
+    requires limit_le_most_flips { rules.limit ≤ most_flips }
+    requires air_len { length air.now ≡ air_bits }
+    ensures { result ≡ header_read (signal_with rules (call_of given call.now) air.now) }
 {
     let at = air::first_no_bit(air);
     if at < AIR_BITS {
@@ -126,7 +126,7 @@ pub fn read_header_with(
     air: &[u8],
 ) -> Read
     requires { table.now ≡ syndromes }
-    ensures { result ≡ headerRead (signalWith rules (call_of given call.now) air.now) }
+    ensures { result ≡ header_read (signal_with rules (call_of given call.now) air.now) }
 {
     let limit = rules.limit;
     if MOST_FLIPS < limit {
@@ -142,7 +142,7 @@ pub fn read_header_with(
 // The same with no call sign bits.
 pub fn read_header_in(table: &[u16; TABLE_ROWS], rules: Rules, air: &[u8]) -> Read
     requires { table.now ≡ syndromes }
-    ensures { result ≡ headerRead (signal rules air.now) }
+    ensures { result ≡ header_read (signal rules air.now) }
 {
     read_header_with(table, rules, false, b"", air)
 }
@@ -150,7 +150,7 @@ pub fn read_header_in(table: &[u16; TABLE_ROWS], rules: Rules, air: &[u8]) -> Re
 // The reader of a header alone, of any bytes: the repaired header, the number of flips and the patterns, or the first
 // refusal of 20, 1, 2, 3, 21, 4, 5, 6.
 pub fn read_header(rules: Rules, air: &[u8]) -> Read
-    ensures { result ≡ headerRead (signal rules air.now) }
+    ensures { result ≡ header_read (signal rules air.now) }
 {
     let table = word::table::whole();
     read_header_in(&table, rules, air)
@@ -158,7 +158,7 @@ pub fn read_header(rules: Rules, air: &[u8]) -> Read
 
 // The same with call sign bits, any bytes: 23 after 2, and 24 after 5. Under the corrected edition they are not looked at.
 pub fn read_header_signed(rules: Rules, call: &[u8], air: &[u8]) -> Read
-    ensures { result ≡ headerRead (signed rules call.now air.now) }
+    ensures { result ≡ header_read (signed rules call.now air.now) }
 {
     let table = word::table::whole();
     read_header_with(&table, rules, true, call, air)

@@ -1,11 +1,11 @@
 // The header writer: the fields make 70 bits, the bits make fourteen words, and the words are sent.
 ghost use Rattle.std.specs.Prelude.{◌≡◌, [], ◌∷◌, ◌++◌, ◌+◌, ◌*◌, ◌<◌, ◌≤◌, ◌^◌, length, take, drop};
 ghost use Rattle.base.specs.Parts.{joined};
-ghost use Rattle.air.specs.Air.{wordCount, airBits, payloadLimit};
-ghost use Rattle.header.specs.Fields.{fieldCount, values_of, dataAt, codedOf};
-ghost use Rattle.header.specs.Writing.{most_of, firstOver, airFor, HeaderWritten};
-ghost use Rattle.crc.specs.Halves.{headerBits, loWidth};
-ghost use Rattle.header.specs.HalfWidths.{lowerWidths, upperFields, upperWidths};
+ghost use Rattle.air.specs.Air.{word_count, air_bits, payload_limit};
+ghost use Rattle.header.specs.Fields.{field_count, values_of, data_at, coded_of};
+ghost use Rattle.header.specs.Writing.{most_of, first_over, air_for, HeaderWritten};
+ghost use Rattle.crc.specs.Halves.{header_bits, lo_width};
+ghost use Rattle.header.specs.HalfWidths.{lower_widths, upper_fields, upper_widths};
 
 use air::{AIR_BITS, LONGEST_PAYLOAD, WORD_COUNT};
 use base::{Edition, LONG_PAYLOAD, OUT_OF_RANGE, Refusal, SHORT_OUTPUT, Written};
@@ -31,7 +31,7 @@ const MOST: [u8; FIELD_COUNT] = [
 
 // The most that field k may be. SrcId's bound is its edition's.
 fn most(edition: Edition, k: usize) -> u8
-    requires { k < fieldCount }
+    requires { k < field_count }
     ensures { result ≡ most_of edition k }
 {
     if k == 0 {
@@ -42,7 +42,7 @@ fn most(edition: Edition, k: usize) -> u8
 
 // The lowest of fourteen values above its bound, or 14.
 fn first_above(edition: Edition, values: [u8; FIELD_COUNT]) -> usize
-    ensures { result ≡ firstOver edition values }
+    ensures { result ≡ first_over edition values }
 {
     let mut k = 0;
     while k < FIELD_COUNT {
@@ -78,14 +78,14 @@ fn values(f: Fields) -> [u8; FIELD_COUNT]
 
 // The lowest field out of range, or 14.
 fn first_over(edition: Edition, f: Fields) -> usize
-    ensures { result ≡ firstOver edition (values_of f) }
+    ensures { result ≡ first_over edition (values_of f) }
 {
     first_above(edition, values(f))
 }
 
 // Header bits 0 to 29. (The sums are made of numbers: a struct's fields are handed over.)
 fn upper_of(src_id: u8, dst_id: u8, fr_cnt_tx: u8, fr_cnt_rx: u8, snr: u8, ai_type_src: u8) -> u64
-    ensures { result ≡ joined upperWidths (src_id ∷ dst_id ∷ fr_cnt_tx ∷ fr_cnt_rx ∷ «snr» ∷ ai_type_src ∷ []) }
+    ensures { result ≡ joined upper_widths (src_id ∷ dst_id ∷ fr_cnt_tx ∷ fr_cnt_rx ∷ «snr» ∷ ai_type_src ∷ []) }
 {
     src_id as u64 * 0x80_0000
         + dst_id as u64 * 0x1_0000
@@ -96,7 +96,7 @@ fn upper_of(src_id: u8, dst_id: u8, fr_cnt_tx: u8, fr_cnt_rx: u8, snr: u8, ai_ty
 }
 
 fn upper(f: Fields) -> u64
-    ensures { result ≡ joined upperWidths (take upperFields (values_of f)) }
+    ensures { result ≡ joined upper_widths (take upper_fields (values_of f)) }
 {
     upper_of(
         f.src_id,
@@ -121,7 +121,7 @@ fn lower_of(
     pdu_length: u16,
     crc13: u16,
 ) -> u64
-    ensures { result ≡ joined lowerWidths (ai_type_dst ∷ dfc_id ∷ «caller» ∷ «arq» ∷ pdu_type_id ∷ bch_rq ∷ «hailing» ∷ ud_fl1 ∷ pdu_length ∷ «crc13» ∷ 0 ∷ []) }
+    ensures { result ≡ joined lower_widths (ai_type_dst ∷ dfc_id ∷ «caller» ∷ «arq» ∷ pdu_type_id ∷ bch_rq ∷ «hailing» ∷ ud_fl1 ∷ pdu_length ∷ «crc13» ∷ 0 ∷ []) }
 {
     ai_type_dst as u64 * 0x10_0000_0000
         + dfc_id as u64 * 0x4_0000_0000
@@ -136,7 +136,7 @@ fn lower_of(
 }
 
 fn lower(f: Fields, pdu_length: u16, crc13: u16) -> u64
-    ensures { result ≡ joined lowerWidths (drop upperFields (values_of f) ++ (pdu_length ∷ «crc13» ∷ 0 ∷ [])) }
+    ensures { result ≡ joined lower_widths (drop upper_fields (values_of f) ++ (pdu_length ∷ «crc13» ∷ 0 ∷ [])) }
 {
     lower_of(
         f.ai_type_dst,
@@ -154,9 +154,9 @@ fn lower(f: Fields, pdu_length: u16, crc13: u16) -> u64
 
 // The data of word j.
 fn data_at(hi: u64, lo: u64, j: usize) -> u16
-    requires lo_bound { lo < 2 ^ loWidth }
-    requires j_lt_word_count { j < wordCount }
-    ensures { result ≡ dataAt (headerBits hi lo) j }
+    requires lo_bound { lo < 2 ^ lo_width }
+    requires j_lt_word_count { j < word_count }
+    ensures { result ≡ data_at (header_bits hi lo) j }
 {
     let end = 5 * j as u64 + 5;
     if end <= 30 {
@@ -167,8 +167,8 @@ fn data_at(hi: u64, lo: u64, j: usize) -> u16
 
 // The fourteen valid words of a header's bits.
 fn coded(hi: u64, lo: u64) -> [u16; WORD_COUNT]
-    requires { lo < 2 ^ loWidth }
-    ensures { result ≡ codedOf (headerBits hi lo) }
+    requires { lo < 2 ^ lo_width }
+    ensures { result ≡ coded_of (header_bits hi lo) }
 {
     let mut words = [0u16; WORD_COUNT];
     let mut j = 0;
@@ -181,10 +181,10 @@ fn coded(hi: u64, lo: u64) -> [u16; WORD_COUNT]
 
 // The header of a payload onto the air, where nothing stands against it.
 fn put_header(edition: Edition, fields: Fields, payload: &[u8], out: &mut [u8])
-    requires air_bits_in_bounds { airBits ≤ length out.old }
-    requires field_count_bound { fieldCount ≤ firstOver edition (values_of fields) }
-    requires payload_len_bound { length payload.now ≤ payloadLimit }
-    ensures { out.new ≡ airFor edition fields payload.now ++ drop airBits out.old }
+    requires air_bits_in_bounds { air_bits ≤ length out.old }
+    requires field_count_bound { field_count ≤ first_over edition (values_of fields) }
+    requires payload_len_bound { length payload.now ≤ payload_limit }
+    ensures { out.new ≡ air_for edition fields payload.now ++ drop air_bits out.old }
 {
     let pdu_length = payload.len() as u16;
     let crc13 = crc::crc13(payload);

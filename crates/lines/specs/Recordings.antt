@@ -4,7 +4,7 @@ use Rattle.std.specs.Prelude.{List, [], ◌∷◌, ◌++◌, ℕ}
 use Rattle.base.specs.declared.Edition.{Edition}
 use Rattle.text.specs.Text.{ascii}
 use Rattle.text.specs.Forms.{form_of}
-use Rattle.air.specs.WordRepairs.{worstOf}
+use Rattle.air.specs.WordRepairs.{worst_of}
 use Rattle.header.specs.declared.Read.{Read}
 use Rattle.header.specs.declared.Answer.{Answer}
 use Rattle.header.specs.declared.Answer.TheVariants.{Accepted, Refused}
@@ -12,29 +12,29 @@ use Rattle.lines.specs.declared.Tally.{Tally}
 use Rattle.lines.specs.declared.Stop.{Stop}
 use Rattle.lines.specs.declared.Stop.TheVariants.{Nowhere, Stopped}
 use Rattle.lines.specs.Tallies.{total_of}
-use Rattle.lines.specs.Lines.{acceptedLine, refusedLine}
+use Rattle.lines.specs.Lines.{accepted_line, refused_line}
 
 -- the first line
 unfoldable pub heading : List ℕ
 heading = ascii "recording\n"
 
 -- `1042 accepted A radio 1 tx 14 repaired 0 worst 0 length 62`, the last number being PduLength; `9000 refused 3 4`
-abbrev pub reportFor : Edition → ℕ → List ℕ → Answer → List ℕ
-reportFor edition place patterns (Accepted h flips) =
-    acceptedLine edition place h.«fields».src_id h.«fields».fr_cnt_tx flips (worstOf patterns) (ascii " length ") h.pdu_length
-reportFor edition place patterns (Refused why) = refusedLine place why
+abbrev pub report_for : Edition → ℕ → List ℕ → Answer → List ℕ
+report_for edition place patterns (Accepted h flips) =
+    accepted_line edition place h.«fields».src_id h.«fields».fr_cnt_tx flips (worst_of patterns) (ascii " length ") h.pdu_length
+report_for edition place patterns (Refused why) = refused_line place why
 
-abbrev pub reportLine : Edition → ℕ → Read → List ℕ
-reportLine edition place read = reportFor edition place read.patterns read.answer
+abbrev pub report_line : Edition → ℕ → Read → List ℕ
+report_line edition place read = report_for edition place read.patterns read.answer
 
 -- `stopped 19 77`: the refusal, and the first byte that is not taken
-abbrev pub stopOf : Stop → List ℕ
-stopOf Nowhere = []
-stopOf (Stopped why) = form_of (ascii "stopped % %\n") (why.number ∷ why.place ∷ []) []
+abbrev pub stop_of : Stop → List ℕ
+stop_of Nowhere = []
+stop_of (Stopped why) = form_of (ascii "stopped % %\n") (why.number ∷ why.place ∷ []) []
 
 -- `bits 34560000 headers 2 accepted 1 refused 1`
 unfoldable pub last_of : ℕ → Tally → List ℕ
 last_of bits tally = form_of (ascii "bits % headers % accepted % refused %\n") (bits ∷ total_of tally ∷ tally.accepted ∷ tally.refused ∷ []) []
 
-abbrev pub endingOf : ℕ → Tally → Stop → List ℕ
-endingOf bits tally stop = stopOf stop ++ last_of bits tally
+abbrev pub ending_of : ℕ → Tally → Stop → List ℕ
+ending_of bits tally stop = stop_of stop ++ last_of bits tally

@@ -1,9 +1,9 @@
 // The text of every line, put into a lent slice at a place. Each function answers the place after what it put.
 ghost use Rattle.std.specs.Prelude.{◌≡◌, ◌++◌, ◌+◌, ◌*◌, ◌<◌, ◌≤◌, length};
-ghost use Rattle.text.specs.Text.{decimalOf, mostDigits, Put};
-ghost use Rattle.lines.specs.Tallies.{mostCounted, total_of, tallyAfter};
-ghost use Rattle.lines.specs.Lines.{title, letterOf, acceptedLine, refusedLine, line_of, lastLine, closingOf};
-ghost use Rattle.lines.specs.Rooms.{speakerOf, speakerRoom, openingOf, openingRoom, damageOf, nameRoom, damageRoom, lineRoom};
+ghost use Rattle.text.specs.Text.{decimal_of, most_digits, Put};
+ghost use Rattle.lines.specs.Tallies.{most_counted, total_of, tally_after};
+ghost use Rattle.lines.specs.Lines.{title, letter_of, accepted_line, refused_line, line_of, last_line, closing_of};
+ghost use Rattle.lines.specs.Rooms.{speaker_of, speaker_room, opening_of, opening_room, damage_of, name_room, damage_room, line_room};
 
 use base::{Edition, Refusal};
 use header::{Answer, Read};
@@ -31,8 +31,8 @@ pub fn total(tally: Tally) -> u64
 
 // A tally after an answer.
 pub fn count(tally: Tally, answer: Answer) -> Tally
-    requires { total_of tally < mostCounted }
-    ensures { result ≡ tallyAfter tally answer }
+    requires { total_of tally < most_counted }
+    ensures { result ≡ tally_after tally answer }
 {
     match answer {
         Answer::Accepted { header, flips } => {
@@ -54,7 +54,7 @@ pub fn count(tally: Tally, answer: Answer) -> Tally
 
 // A to D for the sources 0 to 7.
 pub fn letter(src_id: u8) -> u8
-    ensures { result ≡ letterOf src_id }
+    ensures { result ≡ letter_of src_id }
 {
     b'A' + header::satellite(src_id)
 }
@@ -72,9 +72,9 @@ fn put_three(
     z: u64,
     after_z: &[u8],
 ) -> usize
-    requires { at + (3 * mostDigits + (length after_x.now + length after_y.now + length after_z.now)) ≤ length out.old }
-    ensures put { Put out.old at ((decimalOf x ++ after_x.now) ++ (decimalOf y ++ after_y.now) ++ (decimalOf z ++ after_z.now)) out.new result }
-    ensures upper_bound { result ≤ at + (3 * mostDigits + (length after_x.now + length after_y.now + length after_z.now)) }
+    requires { at + (3 * most_digits + (length after_x.now + length after_y.now + length after_z.now)) ≤ length out.old }
+    ensures put { Put out.old at ((decimal_of x ++ after_x.now) ++ (decimal_of y ++ after_y.now) ++ (decimal_of z ++ after_z.now)) out.new result }
+    ensures upper_bound { result ≤ at + (3 * most_digits + (length after_x.now + length after_y.now + length after_z.now)) }
 {
     let a = text::put_field(out, at, x, after_x);
     let b = text::put_field(out, a, y, after_y);
@@ -83,9 +83,9 @@ fn put_three(
 
 // Puts who spoke, as `B radio 2`.
 fn put_radio(out: &mut [u8], at: usize, src_id: u8) -> usize
-    requires { at + speakerRoom ≤ length out.old }
-    ensures put { Put out.old at (speakerOf Edition.Flown src_id) out.new result }
-    ensures upper_bound { result ≤ at + speakerRoom }
+    requires { at + speaker_room ≤ length out.old }
+    ensures put { Put out.old at (speaker_of Edition.Flown src_id) out.new result }
+    ensures upper_bound { result ≤ at + speaker_room }
 {
     let name = [letter(src_id)];
     let a = text::put_text(out, at, &name);
@@ -95,9 +95,9 @@ fn put_radio(out: &mut [u8], at: usize, src_id: u8) -> usize
 
 // Puts who spoke, as `source 97`: under the corrected edition a frame is given to no S-NET satellite.
 fn put_number(out: &mut [u8], at: usize, src_id: u8) -> usize
-    requires { at + speakerRoom ≤ length out.old }
-    ensures put { Put out.old at (speakerOf Edition.Corrected src_id) out.new result }
-    ensures upper_bound { result ≤ at + speakerRoom }
+    requires { at + speaker_room ≤ length out.old }
+    ensures put { Put out.old at (speaker_of Edition.Corrected src_id) out.new result }
+    ensures upper_bound { result ≤ at + speaker_room }
 {
     let a = text::put_text(out, at, b"source ");
     text::put_decimal(out, a, src_id as u64)
@@ -105,9 +105,9 @@ fn put_number(out: &mut [u8], at: usize, src_id: u8) -> usize
 
 // Opens the line of an accepted record k.
 fn put_opening(out: &mut [u8], at: usize, edition: Edition, k: u64, src_id: u8) -> usize
-    requires { at + openingRoom ≤ length out.old }
-    ensures put { Put out.old at (openingOf edition k src_id) out.new result }
-    ensures upper_bound { result ≤ at + openingRoom }
+    requires { at + opening_room ≤ length out.old }
+    ensures put { Put out.old at (opening_of edition k src_id) out.new result }
+    ensures upper_bound { result ≤ at + opening_room }
 {
     let a = text::put_field(out, at, k, b" accepted ");
     match edition {
@@ -126,10 +126,10 @@ fn put_damage(
     name: &[u8],
     n: usize,
 ) -> usize
-    requires damage_room_in_bounds { at + damageRoom ≤ length out.old }
-    requires name_len_bound { length name.now ≤ nameRoom }
-    ensures put { Put out.old at (damageOf tx flips worst name.now n) out.new result }
-    ensures upper_bound { result ≤ at + damageRoom }
+    requires damage_room_in_bounds { at + damage_room ≤ length out.old }
+    requires name_len_bound { length name.now ≤ name_room }
+    ensures put { Put out.old at (damage_of tx flips worst name.now n) out.new result }
+    ensures upper_bound { result ≤ at + damage_room }
 {
     let a = text::put_field(out, at, tx as u64, b" repaired ");
     let b = text::put_field(out, a, flips as u64, b" worst ");
@@ -150,10 +150,10 @@ pub fn put_accepted(
     name: &[u8],
     n: usize,
 ) -> usize
-    requires line_room_in_bounds { at + lineRoom ≤ length out.old }
-    requires name_len_bound { length name.now ≤ nameRoom }
-    ensures put { Put out.old at (acceptedLine edition k src_id tx flips worst name.now n) out.new result }
-    ensures upper_bound { result ≤ at + lineRoom }
+    requires line_room_in_bounds { at + line_room ≤ length out.old }
+    requires name_len_bound { length name.now ≤ name_room }
+    ensures put { Put out.old at (accepted_line edition k src_id tx flips worst name.now n) out.new result }
+    ensures upper_bound { result ≤ at + line_room }
 {
     let a = put_opening(out, at, edition, k, src_id);
     let b = text::put_text(out, a, b" tx ");
@@ -162,9 +162,9 @@ pub fn put_accepted(
 
 // Puts the line of record k, which is refused.
 pub fn put_refused(out: &mut [u8], at: usize, k: u64, why: Refusal) -> usize
-    requires { at + lineRoom ≤ length out.old }
-    ensures put { Put out.old at (refusedLine k why) out.new result }
-    ensures upper_bound { result ≤ at + lineRoom }
+    requires { at + line_room ≤ length out.old }
+    ensures put { Put out.old at (refused_line k why) out.new result }
+    ensures upper_bound { result ≤ at + line_room }
 {
     put_three(
         out,
@@ -187,9 +187,9 @@ pub fn put_line(
     bytes: usize,
     read: Read,
 ) -> usize
-    requires { at + lineRoom ≤ length out.old }
+    requires { at + line_room ≤ length out.old }
     ensures put { Put out.old at (line_of edition k bytes read) out.new result }
-    ensures upper_bound { result ≤ at + lineRoom }
+    ensures upper_bound { result ≤ at + line_room }
 {
     let answer = read.answer;
     let patterns = read.patterns;
@@ -212,16 +212,16 @@ pub fn put_line(
 
 // Puts the first line.
 pub fn put_title(out: &mut [u8]) -> usize
-    requires { lineRoom ≤ length out.old }
+    requires { line_room ≤ length out.old }
     ensures put { Put out.old 0 title out.new result }
-    ensures upper_bound { result ≤ lineRoom }
+    ensures upper_bound { result ≤ line_room }
 {
     text::put_text(out, 0, b"pass sheet\n")
 }
 
 fn put_last(out: &mut [u8], at: usize, tally: Tally) -> usize
-    requires { at + lineRoom ≤ length out.old }
-    ensures { Put out.old at (lastLine tally) out.new result }
+    requires { at + line_room ≤ length out.old }
+    ensures { Put out.old at (last_line tally) out.new result }
 {
     let a = text::put_text(out, at, b"heard ");
     put_three(
@@ -238,8 +238,8 @@ fn put_last(out: &mut [u8], at: usize, tally: Tally) -> usize
 
 // Puts the last line, after `cut` where the input was cut.
 pub fn put_closing(out: &mut [u8], at: usize, tally: Tally, cut: bool) -> usize
-    requires { at + 2 * lineRoom ≤ length out.old }
-    ensures { Put out.old at (closingOf tally cut) out.new result }
+    requires { at + 2 * line_room ≤ length out.old }
+    ensures { Put out.old at (closing_of tally cut) out.new result }
 {
     if cut {
         let a = text::put_text(out, at, b"cut\n");

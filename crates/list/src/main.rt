@@ -2,10 +2,10 @@
 // its name are those of `options`: `--strict` tells on standard error where and why a listing was cut.
 ghost use Rattle.std.specs.Prelude.{◌≡◌, ◌*◌, ◌≤◌, length};
 ghost use Rattle.word.specs.Repairs.{syndromes};
-ghost use Rattle.air.specs.Air.{payloadLimit};
-ghost use Rattle.record.specs.Records.{recordSize};
-ghost use Rattle.frame.specs.Recorded.{listedRules};
-ghost use Rattle.lines.specs.Rooms.{lineRoom};
+ghost use Rattle.air.specs.Air.{payload_limit};
+ghost use Rattle.record.specs.Records.{record_size};
+ghost use Rattle.frame.specs.Recorded.{listed_rules};
+ghost use Rattle.lines.specs.Rooms.{line_room};
 
 use air::MOST_FLIPS;
 use base::Edition;
@@ -35,7 +35,7 @@ fn tell_cut(ending: Ending, place: u64) {
 
 // Writes the last lines of a listing that ended so, with so many bytes left from a place on.
 fn finish(strict: bool, tally: Tally, ending: Ending, left: usize, place: u64, out: &mut [u8])
-    requires { 2 * lineRoom ≤ length out.old }
+    requires { 2 * line_room ≤ length out.old }
 {
     let closed = listing::close(tally, left, out);
     let to = closed.to;
@@ -48,8 +48,8 @@ fn finish(strict: bool, tally: Tally, ending: Ending, left: usize, place: u64, o
 // The turns are counted down from a number that no run uses up: each but the last reads a byte.
 fn list(table: &[u16; TABLE_ROWS], rules: Rules, strict: bool, buf: &mut [u8], out: &mut [u8])
     requires table_value { table.now ≡ syndromes }
-    requires rules_value { rules ≡ listedRules rules.edition }
-    requires payload_limit_in_bounds { recordSize payloadLimit ≤ length buf.old }
+    requires rules_value { rules ≡ listed_rules rules.edition }
+    requires payload_limit_in_bounds { record_size payload_limit ≤ length buf.old }
     requires buf_in_bounds { length buf.old ≤ length out.old }
 {
     let opened = listing::open(out);

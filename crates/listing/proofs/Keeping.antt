@@ -5,18 +5,18 @@ use mathlib.Core.Bool.{false}
 use mathlib.Core.List.{List}
 use Prim.Native.Nat.{ℕ, ◌<◌}
 use lib.ListN.{take}
-use Rattle.air.specs.Air.{payloadLimit}
+use Rattle.air.specs.Air.{payload_limit}
 use Rattle.header.specs.declared.Rules.{Rules}
 use Rattle.lines.specs.declared.Tally.{Tally}
 use Rattle.walk.specs.Scans.{Scanned}
 use Rattle.record.specs.declared.Ending.{Ending}
-use Rattle.record.specs.Records.{recordSize}
-use Rattle.record.specs.Walks.{ended_as, overOf}
-use Rattle.record.proofs.Walking.{left-of-records}
-use Rattle.listing.specs.Listing.{fullAt, tallyIn, lineIn, listWalk}
-use Rattle.listing.proofs.Streaming.{list-sound}
+use Rattle.record.specs.Records.{record_size}
+use Rattle.record.specs.Walks.{ended_as, over_of}
+use Rattle.record.proofs.Walking.{left_of_records}
+use Rattle.listing.specs.Listing.{full_at, tally_in, line_in, list_walk}
+use Rattle.listing.proofs.Streaming.{list_sound}
 
-pub left-short : (rules : Rules) (tally : Tally) (l before : List ℕ) (at : ℕ) (after : List ℕ) (state : Tally) (left to : ℕ) (ending : Ending)
-    → Scanned (listWalk rules) 1 tally l before at after state left to (ended_as ending) → overOf ending ≡ false → left < recordSize payloadLimit
-left-short rules tally l before at after state left to ending so e =
-    left-of-records fullAt (tallyIn rules) (lineIn rules) (list-sound rules) 1 tally l before at after state left to ending so e
+pub left_short : (rules : Rules) (tally : Tally) (l before : List ℕ) (at : ℕ) (after : List ℕ) (state : Tally) (left to : ℕ) (ending : Ending)
+    → Scanned (list_walk rules) 1 tally l before at after state left to (ended_as ending) → over_of ending ≡ false → left < record_size payload_limit
+left_short rules tally l before at after state left to ending so e =
+    left_of_records full_at (tally_in rules) (line_in rules) (list_sound rules) 1 tally l before at after state left to ending so e

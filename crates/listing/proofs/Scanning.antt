@@ -10,29 +10,29 @@ use borrow.Author.Tests.{le-leb, lt-leb}
 use Rattle.header.specs.declared.Rules.{Rules}
 use Rattle.lines.specs.declared.Tally.{Tally}
 use Rattle.lines.specs.Tallies.{total_of}
-use Rattle.lines.specs.Rooms.{lineRoom}
-use Rattle.sheet.specs.Sheets.{fullSheet}
-use Rattle.text.proofs.Sizes.{part-size}
+use Rattle.lines.specs.Rooms.{line_room}
+use Rattle.sheet.specs.Sheets.{full_sheet}
+use Rattle.text.proofs.Sizes.{part_size}
 use Rattle.walk.proofs.Scanning as scan
-use Rattle.record.specs.Records.{recordSize}
-use Rattle.listing.specs.Listing.{fullAt, listWalk}
-use Rattle.listing.proofs.Streaming.{list-sound}
+use Rattle.record.specs.Records.{record_size}
+use Rattle.listing.specs.Listing.{full_at, list_walk}
+use Rattle.listing.proofs.Streaming.{list_sound}
 
 abbrev pub Scanning : Rules → Tally → List ℕ → List ℕ → ℕ → List ℕ → Tally → ℕ → ℕ → Type 0
-Scanning rules = scan.Scanning (listWalk rules) (list-sound rules) 1
+Scanning rules = scan.Scanning (list_walk rules) (list_sound rules) 1
 
 pub starts : (rules : Rules) (tally : Tally) (l before : List ℕ) (at : ℕ) → at + length l ≤ length before → Scanning rules tally l before at before tally 0 at
-starts rules tally l before at room = scan.starts (listWalk rules) (list-sound rules) 1 tally l before at (omega arith)
+starts rules tally l before at room = scan.starts (list_walk rules) (list_sound rules) 1 tally l before at (omega arith)
 
-pub is-full : (tally : Tally) (k : ℕ) → k ≡ total_of tally → fullSheet ≤ k → fullAt tally ≡ true
-is-full tally k heard h = le-leb fullSheet (total_of tally) (omega arith)
+pub is_full : (tally : Tally) (k : ℕ) → k ≡ total_of tally → full_sheet ≤ k → full_at tally ≡ true
+is_full tally k heard h = le-leb full_sheet (total_of tally) (omega arith)
 
-pub has-place : (tally : Tally) (k : ℕ) → k ≡ total_of tally → k < fullSheet → fullAt tally ≡ false
-has-place tally k heard h = lt-leb fullSheet (total_of tally) (omega arith)
+pub has_place : (tally : Tally) (k : ℕ) → k ≡ total_of tally → k < full_sheet → full_at tally ≡ false
+has_place tally k heard h = lt-leb full_sheet (total_of tally) (omega arith)
 
-pub line_small : (n : ℕ) → lineRoom ≤ 1 * recordSize n
+pub line_small : (n : ℕ) → line_room ≤ 1 * record_size n
 line_small n = omega arith
 
 -- the first n bytes have room where n bytes have
-pub part-fits : (l : List ℕ) (n : ℕ) → n ≤ length l → (room : ℕ) → n ≤ room → 0 + length (take n l) ≤ room
-part-fits l n inside room h = omega (arith, part-size l n inside)
+pub part_fits : (l : List ℕ) (n : ℕ) → n ≤ length l → (room : ℕ) → n ≤ room → 0 + length (take n l) ≤ room
+part_fits l n inside room h = omega (arith, part_size l n inside)

@@ -10,27 +10,27 @@ use native.Mathlib.Nat.{zero-add}
 use lib.Dec.{ltb}
 use lib.ListN.{length}
 use Rattle.header.specs.declared.Rules.{Rules}
-use Rattle.sheet.specs.Sheets.{newSheet, fullSheet, full_of}
-use Rattle.sheet.specs.Histories.{sheetOf}
+use Rattle.sheet.specs.Sheets.{new_sheet, full_sheet, full_of}
+use Rattle.sheet.specs.Histories.{sheet_of}
 use Rattle.walk.specs.Walks.{walk_of}
-use Rattle.lines.specs.Tallies.{nothingHeard}
-use Rattle.listing.specs.Listing.{fullAt, listWalk}
-use Rattle.listing.specs.Offers.{framesIn, linesBy, tallyBy, wholeAhead}
-use Rattle.listing.proofs.AsSheet.{as-sheet}
+use Rattle.lines.specs.Tallies.{nothing_heard}
+use Rattle.listing.specs.Listing.{full_at, list_walk}
+use Rattle.listing.specs.Offers.{frames_in, lines_by, tally_by, whole_ahead}
+use Rattle.listing.proofs.AsSheet.{as_sheet}
 
 module _ (rules : Rules) (input : List ℕ) where
   -- each record's line is that of the answer which the sheet gives to its frame; frames for a full sheet have none
-  pub sheet-lines : (walk_of (listWalk rules) nothingHeard input).text ≡ linesBy rules.edition (newSheet rules.edition) (framesIn rules input)
-  sheet-lines = (as-sheet rules input).lines
+  pub sheet_lines : (walk_of (list_walk rules) nothing_heard input).text ≡ lines_by rules.edition (new_sheet rules.edition) (frames_in rules input)
+  sheet_lines = (as_sheet rules input).lines
 
   -- the last line's counts are the sheet's
-  pub sheet-tally : (walk_of (listWalk rules) nothingHeard input).state ≡ tallyBy rules.edition (sheetOf rules.edition (framesIn rules input))
-  sheet-tally = (as-sheet rules input).tally
+  pub sheet_tally : (walk_of (list_walk rules) nothing_heard input).state ≡ tally_by rules.edition (sheet_of rules.edition (frames_in rules input))
+  sheet_tally = (as_sheet rules input).tally
 
   -- "A further record for a full sheet does the same": the tally is full exactly where the sheet is,
-  pub sheet-full : fullAt (walk_of (listWalk rules) nothingHeard input).state ≡ full_of rules.edition (sheetOf rules.edition (framesIn rules input))
-  sheet-full = ap fullAt sheet-tally
+  pub sheet_full_lem : full_at (walk_of (list_walk rules) nothing_heard input).state ≡ full_of rules.edition (sheet_of rules.edition (frames_in rules input))
+  sheet_full_lem = ap full_at sheet_tally
 
   -- and a whole record is left exactly where there are more than fill the sheet
-  pub sheet-cut : wholeAhead (walk_of (listWalk rules) nothingHeard input).rest ≡ ltb fullSheet (length (framesIn rules input))
-  sheet-cut = (as-sheet rules input).cut ∙ ap (ltb fullSheet) (zero-add (length (framesIn rules input)))
+  pub sheet_cut : whole_ahead (walk_of (list_walk rules) nothing_heard input).rest ≡ ltb full_sheet (length (frames_in rules input))
+  sheet_cut = (as_sheet rules input).cut ∙ ap (ltb full_sheet) (zero-add (length (frames_in rules input)))

@@ -4,25 +4,25 @@ use mathlib.Core.Path.{◌≡◌, ap}
 use mathlib.Core.List.{List, ◌++◌, flatten}
 use Prim.Native.Nat.{ℕ}
 use Rattle.header.specs.declared.Rules.{Rules}
-use Rattle.walk.specs.Walks.{Closed, closedBy}
+use Rattle.walk.specs.Walks.{Closed, closed_by}
 use Rattle.walk.proofs.Walking.{Sound}
-use Rattle.walk.proofs.Feeding.{fed-whole}
-use Rattle.record.proofs.Stays.{air-stays, payload-stays}
-use Rattle.record.proofs.Walking.{Stays, record-sound, cut-settled}
-use Rattle.lines.specs.Tallies.{nothingHeard}
-use Rattle.lines.specs.Lines.{title, closingOf}
-use Rattle.listing.specs.Listing.{fullAt, tallyIn, lineIn, listWalk, listingOf, streamedOf}
+use Rattle.walk.proofs.Feeding.{fed_whole}
+use Rattle.record.proofs.Stays.{air_stays, payload_stays}
+use Rattle.record.proofs.Walking.{Stays, record_sound, cut_settled}
+use Rattle.lines.specs.Tallies.{nothing_heard}
+use Rattle.lines.specs.Lines.{title, closing_of}
+use Rattle.listing.specs.Listing.{full_at, tally_in, line_in, list_walk, listing_of, streamed_of}
 
 module _ (rules : Rules) where
-  pub list-sound : Sound (listWalk rules)
-  list-sound = record-sound fullAt (tallyIn rules) (lineIn rules) (record {
-    next-same = λ s l f n e. rw (air-stays l f n e, payload-stays l f n e);
-    text_same = λ s l f n e. rw (air-stays l f n e, payload-stays l f n e);
+  pub list_sound : Sound (list_walk rules)
+  list_sound = record_sound full_at (tally_in rules) (line_in rules) (record {
+    next_same = λ s l f n e. rw (air_stays l f n e, payload_stays l f n e);
+    text_same = λ s l f n e. rw (air_stays l f n e, payload_stays l f n e);
   })
 
   -- however the input is cut into pieces, what is written is the listing of the whole
-  pub whole-listing : (pieces : List (List ℕ)) → streamedOf rules pieces ≡ listingOf rules (flatten pieces)
-  unfolding streamedOf listingOf
-  whole-listing pieces =
+  pub whole_listing : (pieces : List (List ℕ)) → streamed_of rules pieces ≡ listing_of rules (flatten pieces)
+  unfolding streamed_of listing_of
+  whole_listing pieces =
       ap (λ (c : Closed (Unit {0})). title ++ c.text)
-      (fed-whole (listWalk rules) list-sound (closedBy closingOf) (cut-settled fullAt (tallyIn rules) (lineIn rules) closingOf) nothingHeard pieces)
+      (fed_whole (list_walk rules) list_sound (closed_by closing_of) (cut_settled full_at (tally_in rules) (line_in rules) closing_of) nothing_heard pieces)

@@ -2,36 +2,36 @@
 -- Assumes nothing.
 use Rattle.std.specs.Prelude.{Bool, List, [], ◌++◌, ℕ, leb}
 use Rattle.header.specs.declared.Rules.{Rules}
-use Rattle.sheet.specs.Sheets.{fullSheet}
-use Rattle.frame.specs.Frames.{frame_of, frameRead}
-use Rattle.frame.specs.Recorded.{frameIn}
-use Rattle.walk.specs.Walks.{Walk, closedBy, toldOf, walk_of, fedOf}
+use Rattle.sheet.specs.Sheets.{full_sheet}
+use Rattle.frame.specs.Frames.{frame_of, frame_read}
+use Rattle.frame.specs.Recorded.{frame_in}
+use Rattle.walk.specs.Walks.{Walk, closed_by, told_of, walk_of, fed_of}
 use Rattle.record.specs.declared.Ending.{Ending}
-use Rattle.record.specs.Walks.{recordWalk}
+use Rattle.record.specs.Walks.{record_walk}
 use Rattle.lines.specs.declared.Tally.{Tally}
-use Rattle.lines.specs.Tallies.{nothingHeard, total_of, tallyAfter}
-use Rattle.lines.specs.Lines.{title, line_of, closingOf}
+use Rattle.lines.specs.Tallies.{nothing_heard, total_of, tally_after}
+use Rattle.lines.specs.Lines.{title, line_of, closing_of}
 
 -- whether a sheet is full that was offered so many
-abbrev pub fullAt : Tally → Bool
-fullAt tally = leb fullSheet (total_of tally)
+abbrev pub full_at : Tally → Bool
+full_at tally = leb full_sheet (total_of tally)
 
 module _ (rules : Rules) where
   -- the tally after the record at the front, which has n payload bytes, and its line
-  abbrev pub tallyIn : Tally → ℕ → List ℕ → Tally
-  tallyIn tally n l = tallyAfter tally (frame_of (frameIn rules n l))
+  abbrev pub tally_in : Tally → ℕ → List ℕ → Tally
+  tally_in tally n l = tally_after tally (frame_of (frame_in rules n l))
 
-  abbrev pub lineIn : Tally → ℕ → List ℕ → List ℕ
-  lineIn tally n l = line_of rules.edition (total_of tally) n (frameRead (frameIn rules n l))
+  abbrev pub line_in : Tally → ℕ → List ℕ → List ℕ
+  line_in tally n l = line_of rules.edition (total_of tally) n (frame_read (frame_in rules n l))
 
   -- records one after the other: "A further record for a full sheet" stops the listing
-  abbrev pub listWalk : Walk Tally ℕ Ending
-  listWalk = recordWalk fullAt tallyIn lineIn
+  abbrev pub list_walk : Walk Tally ℕ Ending
+  list_walk = record_walk full_at tally_in line_in
 
   -- the listing of a whole input: "`cut`, then the last line .. and stops"
-  unfoldable pub listingOf : List ℕ → List ℕ
-  listingOf input = title ++ (toldOf (closedBy closingOf) (walk_of listWalk nothingHeard input)).text
+  unfoldable pub listing_of : List ℕ → List ℕ
+  listing_of input = title ++ (told_of (closed_by closing_of) (walk_of list_walk nothing_heard input)).text
 
   -- what is written for an input that comes in pieces
-  unfoldable pub streamedOf : List (List ℕ) → List ℕ
-  streamedOf pieces = title ++ (fedOf listWalk (closedBy closingOf) nothingHeard [] pieces).text
+  unfoldable pub streamed_of : List (List ℕ) → List ℕ
+  streamed_of pieces = title ++ (fed_of list_walk (closed_by closing_of) nothing_heard [] pieces).text

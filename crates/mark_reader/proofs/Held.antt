@@ -20,20 +20,20 @@ abbrev pub B : Lfts 1 → RattleType
 B κs = T.the_row (named_lft 1 0 tt κs)
 
 -- the machine values of a piece and of a state, and what they and a reader own
-abbrev pub pieceVal : Bor (List ℕ) → Val
-pieceVal s = slice_val s.ref_ptr (length s.now)
+abbrev pub piece_val : Bor (List ℕ) → Val
+piece_val s = slice_val s.ref_ptr (length s.now)
 
-abbrev pub stateVal : State → Val
-stateVal st = LL.val K.the_type K'.the_laws st
+abbrev pub state_val : State → Val
+state_val st = LL.val K.the_type K'.the_laws st
 
 abbrev pub OwnPiece : Lft → Bor (List ℕ) → Fml
-OwnPiece κ s = (ShrSlice (named 0) κ u8).own_val s (pieceVal s ∷ [])
+OwnPiece κ s = (ShrSlice (named 0) κ u8).own_val s (piece_val s ∷ [])
 
 abbrev pub OwnReader : Lft → Reader → Fml
 OwnReader κ d = (B (κ, tt)).own_val d (T'.lowered d ∷ [])
 
 abbrev pub OwnState : State → Fml
-OwnState st = (K.the_row).own_val st (stateVal st ∷ [])
+OwnState st = (K.the_row).own_val st (state_val st ∷ [])
 
 -- a function over a reader and a state, whose result stands in the slot R, and what it is passed
 abbrev pub over : Slot 1 → Ended
@@ -43,7 +43,7 @@ abbrev pub stayed : (R : Slot 1) → Stays (over R).signature.params (over R).ke
 stayed R = (stay_none B yes, (stay_none (λ _. K.the_row) yes, tt))
 
 abbrev pub passed : Reader → State → List Val × (List Val × Unit {0})
-passed d st = (T'.lowered d ∷ [], (stateVal st ∷ [], tt))
+passed d st = (T'.lowered d ∷ [], (state_val st ∷ [], tt))
 
 module _ {M : Type 1} {𝓤 : Ura M} (𝓛 : Logic 𝓤) where
   module _ (κ : Lft) (q : Share) (d : Reader) (st : State) where
@@ -64,7 +64,7 @@ module _ {M : Type 1} {𝓤 : Ura M} (𝓛 : Logic 𝓤) where
         qed 𝓛 ((‵ (flft κ q) ⊛ ‵ ftrue) ∷ ‵ (fsep (OwnReader κ d) (fsep (OwnState st) ftrue)) ∷ []) ∵
         move ! (1 ∷ []) $ fsplit ! $ move ! (1 ∷ []) $ fsplit ! $ move ! (1 ∷ []) $ drop ! $
         -- [what the state owns; what the reader owns; the token]
-        use1 𝓛 (‵ (OwnState st) ⊛ ‵ (OwnState st)) ((LL.copy K.the_type K'.the_copy 𝓛).twice st (stateVal st ∷ [])) $ split ! $
+        use1 𝓛 (‵ (OwnState st) ⊛ ‵ (OwnState st)) ((LL.copy K.the_type K'.the_copy 𝓛).twice st (state_val st ∷ [])) $ split ! $
         move ! (2 ∷ []) $ use1 𝓛 (‵ (OwnReader κ d) ⊛ ‵ (OwnReader κ d)) ((LL.copy D (T'.the_copy (named_lft 1 0 tt (κ, tt))) 𝓛).twice d (T'.lowered d ∷ [])) $ split ! $
         use1 𝓛 (given (T'.lowered d ∷ [] ≡ T'.lowered d ∷ []) (‵ (all_own D.parts L vd))) (own_open 𝓛 D L vd (T'.lowered d)) $ learn ! (λ _. use1 𝓛 (‵ (field_own D.parts L 0 d.piece) ⊛ ‵ (rest D.parts L 0 vd)) (own_out 𝓛 D.parts L 0 vd) $ split ! $
         -- [what the piece owns; what at owns; what the reader owns; what the state owns, twice; the token]
@@ -73,11 +73,11 @@ module _ {M : Type 1} {𝓤 : Ura M} (𝓛 : Logic 𝓤) where
         move ! (3 ∷ 0 ∷ []) $ use2 𝓛 (raw P) asked $ frame ! $ frame ! $ done !)
 
   -- a function meets its contract that is walked with the machine values written out
-  pub meets-over : (R : Slot 1) (c : Clauses 𝓤 (over R)) (run : Fun 𝓤) → ((vs : List Val) → Mono 𝓤 (run vs))
-      → ((κ : Lft) (q : Share) (d : Reader) (st : State) (g : (c (κ, tt) (d, (st, tt))).ghost) → Holds (has_ty (T'.mir (named 0)) (T'.lowered d)) × WT (T'.lowered d) → Holds (has_ty K'.mir (stateVal st)) × WT (stateVal st)
-      → ent 𝓤 (on_entry 𝓛 (over R).signature (κ, tt) (q, tt) (d, (st, tt)) (passed d st)) (run (T'.lowered d ∷ stateVal st ∷ []) ((walk_of 𝓛 (over R) (stayed R) c).post (((κ, tt), (q, tt), tt, (d, (st, tt)), passed d st), g))))
+  pub meets_over : (R : Slot 1) (c : Clauses 𝓤 (over R)) (run : Fun 𝓤) → ((vs : List Val) → Mono 𝓤 (run vs))
+      → ((κ : Lft) (q : Share) (d : Reader) (st : State) (g : (c (κ, tt) (d, (st, tt))).ghost) → Holds (has_ty (T'.mir (named 0)) (T'.lowered d)) × WT (T'.lowered d) → Holds (has_ty K'.mir (state_val st)) × WT (state_val st)
+      → ent 𝓤 (on_entry 𝓛 (over R).signature (κ, tt) (q, tt) (d, (st, tt)) (passed d st)) (run (T'.lowered d ∷ state_val st ∷ []) ((walk_of 𝓛 (over R) (stayed R) c).post (((κ, tt), (q, tt), tt, (d, (st, tt)), passed d st), g))))
       → Meets 𝓛 (over R).signature run (closing 𝓛 (over R) c)
-  meets-over R c run mono walk =
+  meets_over R c run mono walk =
       walk_Meets 𝓛 (over R) (stayed R) (Goes-none 𝓛 1 B yes (λ κs x f. refl), (Goes-none 𝓛 1 (λ _. K.the_row) yes (λ κs x f. refl), tt)) c run mono
       (walked 𝓛 (over R) (stayed R) c run
       (λ κs. (LL.vals (T.the_type (named_lft 1 0 tt κs)) (T'.the_laws (named_lft 1 0 tt κs)), (LL.vals K.the_type K'.the_laws, tt)))

@@ -5,5 +5,5 @@ use Rattle.std.specs.Borrow.{Bor}
 use Rattle.mark_reader.specs.declared.Reader.{Reader}
 
 -- "A reader holds the lent piece and its position"
-abbrev pub readerAt : Bor (List ℕ) → ℕ → Reader
-readerAt piece at = record { piece = piece; at = at }
+abbrev pub reader_at : Bor (List ℕ) → ℕ → Reader
+reader_at piece at = record { piece = piece; at = at }

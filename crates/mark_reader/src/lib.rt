@@ -1,7 +1,7 @@
 // A reader over `marks`, which holds the piece that is lent to it.
 ghost use Rattle.std.specs.Prelude.{◌≡◌};
 ghost use Rattle.marks.specs.Pieces.{taken_of, step_of};
-ghost use Rattle.mark_reader.specs.Readers.{readerAt};
+ghost use Rattle.mark_reader.specs.Readers.{reader_at};
 
 use marks::{State, Step, Taken};
 
@@ -14,14 +14,14 @@ pub struct Reader<'a> {
 
 // A reader at the start of a piece.
 pub fn new<'a>(piece: &'a [u8]) -> Reader<'a>
-    ensures { result ≡ readerAt piece.entry 0 }
+    ensures { result ≡ reader_at piece.entry 0 }
 {
     Reader { piece, at: 0 }
 }
 
 // A reader of the same piece at another position.
 pub fn moved<'a>(reader: Reader<'a>, at: usize) -> Reader<'a>
-    ensures { result ≡ readerAt reader.entry.piece at }
+    ensures { result ≡ reader_at reader.entry.piece at }
 {
     Reader {
         piece: reader.piece,

@@ -13,10 +13,10 @@ use borrow.Author.Tests.{le-ltb}
 use Rattle.marks.specs.declared.Mark.{Mark}
 use Rattle.marks.specs.declared.State.{State}
 use Rattle.marks.specs.declared.Step.{Step}
-use Rattle.marks.specs.Marked.{windowBits, marked, markAt, markIf, marksFrom}
-use Rattle.marks.specs.Pieces.{longestRecording, placeAt, marksAt, noStep, pick, step_of}
+use Rattle.marks.specs.Marked.{window_bits, marked, mark_at, mark_if, marks_from}
+use Rattle.marks.specs.Pieces.{longest_recording, place_at, marks_at, no_step, pick, step_of}
 use Rattle.marks.specs.Reports.{Got, last, more}
-use Rattle.marks.proofs.Marks.{marked-long}
+use Rattle.marks.proofs.Marks.{marked_long}
 
 abbrev rest : List Mark → List Mark
 rest [] = []
@@ -25,16 +25,16 @@ rest (m ∷ ms) = ms
 -- what is known of the first mark and of those after it
 record First (p : ℕ) (l : List ℕ) (m : Mark) (ms : List Mark) : Type 0 where
   from : p ≤ m.place
-  whole : m.place - p + windowBits ≤ length l
-  others : ms ≡ marksFrom (suc m.place) (drop (suc m.place - p) l)
+  whole : m.place - p + window_bits ≤ length l
+  others : ms ≡ marks_from (suc m.place) (drop (suc m.place - p) l)
 
-here : (p x : ℕ) (xs : List ℕ) (m : Mark) (ms : List Mark) → marked (x ∷ xs) ≡ true → markAt p (x ∷ xs) ∷ marksFrom (suc p) xs ≡ m ∷ ms → First p (x ∷ xs) m ms
-unfolding markAt
+here : (p x : ℕ) (xs : List ℕ) (m : Mark) (ms : List Mark) → marked (x ∷ xs) ≡ true → mark_at p (x ∷ xs) ∷ marks_from (suc p) xs ≡ m ∷ ms → First p (x ∷ xs) m ms
+unfolding mark_at
 here p x xs m ms is e =
-    let eq : m ≡ markAt p (x ∷ xs) = cc in
+    let eq : m ≡ mark_at p (x ∷ xs) = cc in
     let at : m.place ≡ p = ap place eq in
-    let es : ms ≡ marksFrom (suc p) xs = cc in
-    let long : windowBits ≤ length (x ∷ xs) = marked-long (x ∷ xs) is in
+    let es : ms ≡ marks_from (suc p) xs = cc in
+    let long : window_bits ≤ length (x ∷ xs) = marked_long (x ∷ xs) is in
     let one : suc p - p ≡ 1 = omega arith in
     record { from = omega arith; whole = omega arith; others = rw (at, one) es }
   where
@@ -46,106 +46,106 @@ further p x xs m ms f =
     let e : suc m.place - p ≡ suc (suc m.place - suc p) = omega (arith, f.from) in
     record { from = omega (arith, f.from); whole = omega (arith, f.from, f.whole); others = rw e f.others }
 
-by-mark : (b : Bool) (p x : ℕ) (xs : List ℕ) (m : Mark) (ms : List Mark) → marked (x ∷ xs) ≡ b
-    → (marksFrom (suc p) xs ≡ m ∷ ms → First (suc p) xs m ms)
-    → markIf b (markAt p (x ∷ xs)) ++ marksFrom (suc p) xs ≡ m ∷ ms → First p (x ∷ xs) m ms
-by-mark true p x xs m ms is ih e = here p x xs m ms is e
-by-mark false p x xs m ms is ih e = further p x xs m ms (ih e)
+by_mark : (b : Bool) (p x : ℕ) (xs : List ℕ) (m : Mark) (ms : List Mark) → marked (x ∷ xs) ≡ b
+    → (marks_from (suc p) xs ≡ m ∷ ms → First (suc p) xs m ms)
+    → mark_if b (mark_at p (x ∷ xs)) ++ marks_from (suc p) xs ≡ m ∷ ms → First p (x ∷ xs) m ms
+by_mark true p x xs m ms is ih e = here p x xs m ms is e
+by_mark false p x xs m ms is ih e = further p x xs m ms (ih e)
 
-first_of : (p : ℕ) (l : List ℕ) (m : Mark) (ms : List Mark) → marksFrom p l ≡ m ∷ ms → First p l m ms
-unfolding marksFrom
+first_of : (p : ℕ) (l : List ℕ) (m : Mark) (ms : List Mark) → marks_from p l ≡ m ∷ ms → First p l m ms
+unfolding marks_from
 first_of p [] m ms e = absurd (let z : ◌≡◌ {A = ℕ} 0 1 = cc in omega arith)
-first_of p (x ∷ xs) m ms e = by-mark (marked (x ∷ xs)) p x xs m ms refl (λ h. first_of (suc p) xs m ms h) e
+first_of p (x ∷ xs) m ms e = by_mark (marked (x ∷ xs)) p x xs m ms refl (λ h. first_of (suc p) xs m ms h) e
 
 -- AT A POSITION OF A PIECE: the window of place p ends at or after position `at`, and q is at or after p
-module _ (total at p q n : ℕ) (ends : total + at ≤ p + (windowBits - 1)) (le : p ≤ q) where
-  goes_on : at < q + windowBits - total
+module _ (total at p q n : ℕ) (ends : total + at ≤ p + (window_bits - 1)) (le : p ≤ q) where
+  goes_on : at < q + window_bits - total
   goes_on = omega arith
 
-  next_place : total + (q + windowBits - total) - (windowBits - 1) ≡ suc q
+  next_place : total + (q + window_bits - total) - (window_bits - 1) ≡ suc q
   next_place = omega arith
 
-  next-index : p + windowBits - total + (suc q - p) ≡ suc q + windowBits - total
-  next-index = omega arith
+  next_index : p + window_bits - total + (suc q - p) ≡ suc q + window_bits - total
+  next_index = omega arith
 
-  stays-in : q - p + windowBits ≤ windowBits + n - (p + windowBits - total) → q + windowBits - total ≤ n
-  stays-in h = omega arith
+  stays_in : q - p + window_bits ≤ window_bits + n - (p + window_bits - total) → q + window_bits - total ≤ n
+  stays_in h = omega arith
 
-module _ (s : State) (piece : List ℕ) (at : ℕ) (long : length s.bits ≡ windowBits) where
-  others-at : (m : Mark) (ms : List Mark) → marksAt s piece at ≡ m ∷ ms
-      → (at < m.place + windowBits - s.total) × (m.place + windowBits - s.total ≤ length piece) × (ms ≡ marksAt s piece (m.place + windowBits - s.total))
-  unfolding marksAt
-  others-at m ms e =
+module _ (s : State) (piece : List ℕ) (at : ℕ) (long : length s.bits ≡ window_bits) where
+  others_at : (m : Mark) (ms : List Mark) → marks_at s piece at ≡ m ∷ ms
+      → (at < m.place + window_bits - s.total) × (m.place + window_bits - s.total ≤ length piece) × (ms ≡ marks_at s piece (m.place + window_bits - s.total))
+  unfolding marks_at
+  others_at m ms e =
       let t : ℕ = s.total in
-      let p : ℕ = placeAt t at in
+      let p : ℕ = place_at t at in
       let q : ℕ = m.place in
       let n : ℕ = length piece in
-      let f : First p (drop (p + windowBits - t) (s.bits ++ piece)) m ms = first_of p (drop (p + windowBits - t) (s.bits ++ piece)) m ms e in
-      let room : q - p + windowBits ≤ windowBits + n - (p + windowBits - t) = simp (length-drop, length-append, long) at f.whole in
-      let h : t + at ≤ p + (windowBits - 1) = omega arith in (
+      let f : First p (drop (p + window_bits - t) (s.bits ++ piece)) m ms = first_of p (drop (p + window_bits - t) (s.bits ++ piece)) m ms e in
+      let room : q - p + window_bits ≤ window_bits + n - (p + window_bits - t) = simp (length-drop, length-append, long) at f.whole in
+      let h : t + at ≤ p + (window_bits - 1) = omega arith in (
         goes_on t at p q n h f.from,
-        stays-in t at p q n h f.from room,
-        f.others ∙ rw (drop-drop (suc q - p) (p + windowBits - t) (s.bits ++ piece), next-index t at p q n h f.from, next_place t at p q n h f.from),
+        stays_in t at p q n h f.from room,
+        f.others ∙ rw (drop-drop (suc q - p) (p + window_bits - t) (s.bits ++ piece), next_index t at p q n h f.from, next_place t at p q n h f.from),
       )
 
 -- WHAT AN ANSWER SAYS
 abbrev found_of : Step → Bool
 found_of t = t.found
 
-not_none : (n : ℕ) (t : Step) → noStep n ≡ t → t.found ≡ true → ⊥
-unfolding noStep
+not_none : (n : ℕ) (t : Step) → no_step n ≡ t → t.found ≡ true → ⊥
+unfolding no_step
 not_none n t e f = true≢false (sym f ∙ sym (ap found_of e))
 
-picked : (n total : ℕ) (ms : List Mark) (t : Step) → pick n total ms ≡ t → t.found ≡ true → (ms ≡ t.mark ∷ rest ms) × (t.next ≡ t.mark.place + windowBits - total)
+picked : (n total : ℕ) (ms : List Mark) (t : Step) → pick n total ms ≡ t → t.found ≡ true → (ms ≡ t.mark ∷ rest ms) × (t.next ≡ t.mark.place + window_bits - total)
 picked n total [] t e f = absurd (not_none n t e f)
-picked n total (q ∷ qs) t e f = (ap (λ (x : Step). x.mark ∷ qs) e, sym (ap (λ (x : Step). x.next) e) ∙ ap (λ (x : Step). x.mark.place + windowBits - total) e)
+picked n total (q ∷ qs) t e f = (ap (λ (x : Step). x.mark ∷ qs) e, sym (ap (λ (x : Step). x.next) e) ∙ ap (λ (x : Step). x.mark.place + window_bits - total) e)
 
-pickless : (b : Bool) (n total : ℕ) (ms : List Mark) (t : Step) → cond b (noStep n) (pick n total ms) ≡ t → t.found ≡ true → pick n total ms ≡ t
+pickless : (b : Bool) (n total : ℕ) (ms : List Mark) (t : Step) → cond b (no_step n) (pick n total ms) ≡ t → t.found ≡ true → pick n total ms ≡ t
 pickless true n total ms t e f = absurd (not_none n t e f)
 pickless false n total ms t e f = e
 
-none-picked : (n total : ℕ) (ms : List Mark) (t : Step) → pick n total ms ≡ t → t.found ≡ false → ms ≡ []
-none-picked n total [] t e f = refl
-none-picked n total (q ∷ qs) t e f = absurd (true≢false (ap found_of e ∙ f))
+none_picked : (n total : ℕ) (ms : List Mark) (t : Step) → pick n total ms ≡ t → t.found ≡ false → ms ≡ []
+none_picked n total [] t e f = refl
+none_picked n total (q ∷ qs) t e f = absurd (true≢false (ap found_of e ∙ f))
 
-module _ (s : State) (piece : List ℕ) (at : ℕ) (long : length s.bits ≡ windowBits) (t : Step) (e : t ≡ step_of s piece at) where
+module _ (s : State) (piece : List ℕ) (at : ℕ) (long : length s.bits ≡ window_bits) (t : Step) (e : t ≡ step_of s piece at) where
   -- a mark that is found is the first, the position goes on inside the piece, and the others are those from there
-  pub finds : t.found ≡ true → (at < t.next) × (t.next ≤ length piece) × (marksAt s piece at ≡ t.mark ∷ marksAt s piece t.next)
+  pub finds : t.found ≡ true → (at < t.next) × (t.next ≤ length piece) × (marks_at s piece at ≡ t.mark ∷ marks_at s piece t.next)
   unfolding step_of
   finds f =
-      let too_long : Bool = ltb longestRecording (s.total + length piece) in
-      let h = picked (length piece) s.total (marksAt s piece at) t (pickless too_long (length piece) s.total (marksAt s piece at) t (sym e) f) f in
-      let o = others-at s piece at long t.mark (rest (marksAt s piece at)) h.0 in
-      (rw h.1 o.0, rw h.1 o.1, h.0 ∙ ap (λ (qs : List Mark). t.mark ∷ qs) (o.2 ∙ ap (marksAt s piece) (sym h.1)))
+      let too_long : Bool = ltb longest_recording (s.total + length piece) in
+      let h = picked (length piece) s.total (marks_at s piece at) t (pickless too_long (length piece) s.total (marks_at s piece at) t (sym e) f) f in
+      let o = others_at s piece at long t.mark (rest (marks_at s piece at)) h.0 in
+      (rw h.1 o.0, rw h.1 o.1, h.0 ∙ ap (λ (qs : List Mark). t.mark ∷ qs) (o.2 ∙ ap (marks_at s piece) (sym h.1)))
 
-  pub finds-none : s.total + length piece ≤ longestRecording → t.found ≡ false → marksAt s piece at ≡ []
+  pub finds_none : s.total + length piece ≤ longest_recording → t.found ≡ false → marks_at s piece at ≡ []
   unfolding step_of
-  finds-none room f = none-picked (length piece) s.total (marksAt s piece at) t (sym (rw (le-ltb longestRecording (s.total + length piece) room) at e)) f
+  finds_none room f = none_picked (length piece) s.total (marks_at s piece at) t (sym (rw (le-ltb longest_recording (s.total + length piece) room) at e)) f
 
-pub got-all : (s : State) (piece : List ℕ) → length s.bits ≡ windowBits → s.total + length piece ≤ longestRecording
-    → (at : ℕ) (ms : List Mark) → Got s piece at ms → ms ≡ marksAt s piece at
-got-all s piece long room at ms (last e) = sym (finds-none s piece at long (step_of s piece at) refl room e)
-got-all s piece long room at ms (more {ms = ns} e g) =
-    ap (λ (qs : List Mark). (step_of s piece at).mark ∷ qs) (got-all s piece long room (step_of s piece at).next ns g) ∙ sym (finds s piece at long (step_of s piece at) refl e).2
+pub got_all : (s : State) (piece : List ℕ) → length s.bits ≡ window_bits → s.total + length piece ≤ longest_recording
+    → (at : ℕ) (ms : List Mark) → Got s piece at ms → ms ≡ marks_at s piece at
+got_all s piece long room at ms (last e) = sym (finds_none s piece at long (step_of s piece at) refl room e)
+got_all s piece long room at ms (more {ms = ns} e g) =
+    ap (λ (qs : List Mark). (step_of s piece at).mark ∷ qs) (got_all s piece long room (step_of s piece at).next ns g) ∙ sym (finds s piece at long (step_of s piece at) refl e).2
 
 -- SOMETHING IS GOT from every position: each mark that is found ends past the last, inside the piece
 pub record Asked (s : State) (piece : List ℕ) (at : ℕ) : Type 0 where
   pub marks : List Mark
   pub got : Got s piece at marks
 
-module _ (s : State) (piece : List ℕ) (long : length s.bits ≡ windowBits) where
-  by-found : (b : Bool) (at : ℕ) → (step_of s piece at).found ≡ b → (b ≡ true → Asked s piece (step_of s piece at).next) → Asked s piece at
-  by-found true at e further = record { marks = (step_of s piece at).mark ∷ (further refl).marks; got = more e (further refl).got }
-  by-found false at e further = record { marks = []; got = last e }
+module _ (s : State) (piece : List ℕ) (long : length s.bits ≡ window_bits) where
+  by_found : (b : Bool) (at : ℕ) → (step_of s piece at).found ≡ b → (b ≡ true → Asked s piece (step_of s piece at).next) → Asked s piece at
+  by_found true at e further = record { marks = (step_of s piece at).mark ∷ (further refl).marks; got = more e (further refl).got }
+  by_found false at e further = record { marks = []; got = last e }
 
   -- after at most n more marks
   asks : (n at : ℕ) → length piece - at ≤ n → Asked s piece at
   asks zero at few =
-      by-found (step_of s piece at).found at refl
+      by_found (step_of s piece at).found at refl
       (λ f. absurd (omega (arith, few, (finds s piece at long (step_of s piece at) refl f).0, (finds s piece at long (step_of s piece at) refl f).1)))
   asks (suc n) at few =
-      by-found (step_of s piece at).found at refl
+      by_found (step_of s piece at).found at refl
       (λ f. asks n (step_of s piece at).next (omega (arith, few, (finds s piece at long (step_of s piece at) refl f).0, (finds s piece at long (step_of s piece at) refl f).1)))
 
-  pub something-got : (at : ℕ) → Asked s piece at
-  something-got at = asks (length piece - at) at (le_refl (length piece - at))
+  pub something_got : (at : ℕ) → Asked s piece at
+  something_got at = asks (length piece - at) at (le_refl (length piece - at))

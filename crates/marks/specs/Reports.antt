@@ -5,14 +5,14 @@ use Rattle.base.specs.declared.Refusal.{Refusal}
 use Rattle.marks.specs.declared.Mark.{Mark}
 use Rattle.marks.specs.declared.State.{State}
 use Rattle.marks.specs.declared.Verdict.TheVariants.{Accepted, Refused}
-use Rattle.marks.specs.Marked.{marked, markAt}
-use Rattle.marks.specs.Pieces.{verdictOf, movedOn, step_of}
+use Rattle.marks.specs.Marked.{marked, mark_at}
+use Rattle.marks.specs.Pieces.{verdict_of, moved_on, step_of}
 
 -- m is the mark of a marked place, `at` elements into a list that starts at place p
 pub record MarkOf (p : ℕ) (l : List ℕ) (m : Mark) : Type 0 where
   pub at : ℕ
   pub is : marked (drop at l) ≡ true
-  pub gives : m ≡ markAt (p + at) (drop at l)
+  pub gives : m ≡ mark_at (p + at) (drop at l)
 
 -- places from p on, "each once, ascending"
 abbrev pub Rising : ℕ → List Mark → Type 0
@@ -27,6 +27,6 @@ pub data Got (s : State) (piece : List ℕ) : ℕ → List Mark → Type 0 where
 -- what a program gets that offers one piece after the other, and asks each that is accepted for its marks
 pub data Run : State → List (List ℕ) → List Mark → Type 0 where
   over : {s : State} → Run s [] []
-  passed : {s : State} {piece : List ℕ} {pieces : List (List ℕ)} {ms : List Mark} {why : Refusal} → verdictOf s.total piece ≡ Refused why → Run s pieces ms → Run s (piece ∷ pieces) ms
-  taken : {s : State} {piece : List ℕ} {pieces : List (List ℕ)} {gs ms : List Mark} → verdictOf s.total piece ≡ Accepted → Got s piece 0 gs → Run (movedOn s piece) pieces ms
+  passed : {s : State} {piece : List ℕ} {pieces : List (List ℕ)} {ms : List Mark} {why : Refusal} → verdict_of s.total piece ≡ Refused why → Run s pieces ms → Run s (piece ∷ pieces) ms
+  taken : {s : State} {piece : List ℕ} {pieces : List (List ℕ)} {gs ms : List Mark} → verdict_of s.total piece ≡ Accepted → Got s piece 0 gs → Run (moved_on s piece) pieces ms
       → Run s (piece ∷ pieces) (gs ++ ms)

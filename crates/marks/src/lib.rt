@@ -3,8 +3,8 @@
 mod scanning;
 
 ghost use Rattle.std.specs.Prelude.{◌≡◌, ◌++◌, ◌+◌, ◌-◌, ◌≤◌, ◌<◌, length, drop};
-ghost use Rattle.marks.specs.Marked.{windowBits, markAt, marksFrom};
-ghost use Rattle.marks.specs.Pieces.{longestRecording, freshState, verdictOf, taken_of, index_of, noStep, pick, step_of};
+ghost use Rattle.marks.specs.Marked.{window_bits, mark_at, marks_from};
+ghost use Rattle.marks.specs.Pieces.{longest_recording, fresh_state, verdict_of, taken_of, index_of, no_step, pick, step_of};
 
 use air::AIR_BITS;
 use base::{LONG_RECORDING, NO_BIT_IN_PIECE, Refusal};
@@ -57,11 +57,11 @@ pub struct Taken {
 
 // The mark at index k of what is kept and the piece after it.
 fn mark_at(kept: &[u8], piece: &[u8], total: u32, k: usize) -> Mark
-    requires kept_len { length kept.now ≡ windowBits }
+    requires kept_len { length kept.now ≡ window_bits }
     requires k_in_bounds { k ≤ length piece.now }
-    requires window_bits_bound { windowBits ≤ total + k }
-    requires piece_bound { total + length piece.now ≤ longestRecording }
-    ensures { result ≡ markAt (total + k - windowBits) (drop k (kept.now ++ piece.now)) }
+    requires window_bits_bound { window_bits ≤ total + k }
+    requires piece_bound { total + length piece.now ≤ longest_recording }
+    ensures { result ≡ mark_at (total + k - window_bits) (drop k (kept.now ++ piece.now)) }
 {
     let window = scanning::window_at(kept, piece, k);
     Mark {
@@ -72,7 +72,7 @@ fn mark_at(kept: &[u8], piece: &[u8], total: u32, k: usize) -> Mark
 
 // No more marks in a piece of n bits.
 fn none(n: usize) -> Step
-    ensures { result ≡ noStep n }
+    ensures { result ≡ no_step n }
 {
     Step {
         found: false,
@@ -86,11 +86,11 @@ fn none(n: usize) -> Step
 
 // The first mark from index `from` on.
 fn scan(kept: &[u8], piece: &[u8], total: u32, from: usize) -> Step
-    requires kept_len { length kept.now ≡ windowBits }
+    requires kept_len { length kept.now ≡ window_bits }
     requires from_in_bounds { from ≤ length piece.now }
-    requires window_bits_bound { windowBits ≤ total + from }
-    requires piece_bound { total + length piece.now ≤ longestRecording }
-    ensures { result ≡ pick (length piece.now) total (marksFrom (total + from - windowBits) (drop from (kept.now ++ piece.now))) }
+    requires window_bits_bound { window_bits ≤ total + from }
+    requires piece_bound { total + length piece.now ≤ longest_recording }
+    ensures { result ≡ pick (length piece.now) total (marks_from (total + from - window_bits) (drop from (kept.now ++ piece.now))) }
 {
     let n = piece.len();
     let k = scanning::next_index(kept, piece, from);
@@ -107,7 +107,7 @@ fn scan(kept: &[u8], piece: &[u8], total: u32, from: usize) -> Step
 
 // The index of the window that ends with element `at` of the piece, or of the recording's first.
 fn index(total: u32, at: usize) -> usize
-    requires { total + at < longestRecording }
+    requires { total + at < longest_recording }
     ensures { result ≡ index_of total at }
 {
     if (total as usize) + at < WINDOW_BITS - 1 {
@@ -138,7 +138,7 @@ pub fn find(state: State, piece: &[u8], at: usize) -> Step
 
 // What is answered to a piece after so many bits.
 fn judge(piece: &[u8], total: u32) -> Verdict
-    ensures { result ≡ verdictOf total piece.now }
+    ensures { result ≡ verdict_of total piece.now }
 {
     let n = piece.len();
     let at = air::first_no_bit(piece);
@@ -160,7 +160,7 @@ fn judge(piece: &[u8], total: u32) -> Verdict
 
 // So many bits and n more.
 fn more(total: u32, n: usize) -> u32
-    requires { total + n ≤ longestRecording }
+    requires { total + n ≤ longest_recording }
     ensures { result ≡ total + n }
 {
     total + n as u32
@@ -194,7 +194,7 @@ pub fn take(state: State, piece: &[u8]) -> Taken
 
 // The state before the first piece.
 pub fn fresh() -> State
-    ensures { result ≡ freshState }
+    ensures { result ≡ fresh_state }
 {
     State {
         bits: [0u8; WINDOW_BITS],

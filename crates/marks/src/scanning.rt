@@ -1,7 +1,7 @@
 // The search for the marker in bits, one after the other, and windows cut out of what is kept and the piece after it.
 ghost use Rattle.std.specs.Prelude.{◌≡◌, true, ◌++◌, ◌+◌, ◌≤◌, ◌<◌, length, get_or, take, drop};
-ghost use Rattle.marks.specs.Marked.{markerBits, windowBits, markerBit, isMarker};
-ghost use Rattle.marks.specs.Scanning.{edge_of, blockSize, Clear, Sought};
+ghost use Rattle.marks.specs.Marked.{marker_bits, window_bits, marker_bit, is_marker};
+ghost use Rattle.marks.specs.Scanning.{edge_of, block_size, Clear, Sought};
 
 use crate::{MARKER_BITS, WINDOW_BITS};
 
@@ -10,16 +10,16 @@ const MARKER: u32 = 0x20F3_FA13;
 
 // Bit i of the marker.
 fn marker_bit(i: usize) -> u8
-    requires { i < markerBits }
-    ensures { result ≡ markerBit i }
+    requires { i < marker_bits }
+    ensures { result ≡ marker_bit i }
 {
     ((MARKER as usize >> i) % 2) as u8
 }
 
 // Whether the marker stands at index k.
 fn is_marker(bits: &[u8], k: usize) -> bool
-    requires { k + markerBits ≤ length bits.now }
-    ensures { result ≡ isMarker (drop k bits.now) }
+    requires { k + marker_bits ≤ length bits.now }
+    ensures { result ≡ is_marker (drop k bits.now) }
 {
     let mut i = 0;
     while i < MARKER_BITS {
@@ -33,8 +33,8 @@ fn is_marker(bits: &[u8], k: usize) -> bool
 
 // 0 where the marker stands at index k: a first look at twelve of its bits, which are 1, 1, 0, 0, 1, 0, 0, 0, 0, 1, 0, 1.
 fn unlike(bits: &[u8], k: usize) -> u8
-    requires { k + markerBits ≤ length bits.now }
-    ensures { isMarker (drop k bits.now) ≡ true → result ≡ 0 }
+    requires { k + marker_bits ≤ length bits.now }
+    ensures { is_marker (drop k bits.now) ≡ true → result ≡ 0 }
 {
     let ones = bits[k] & bits[k + 1] & bits[k + 4] & bits[k + 9] & bits[k + 11];
     let zeros = bits[k + 2] | bits[k + 3] | bits[k + 5] | bits[k + 6];
@@ -46,8 +46,8 @@ const BLOCK: usize = 64;
 
 // Not 0 only where no marker stands at the indices of the block at k. It has no branch, so that many indices go at once.
 fn clear(bits: &[u8], k: usize) -> u8
-    requires { k + (blockSize + 31) ≤ length bits.now }
-    ensures { 0 < result → Clear bits.now k (k + blockSize) }
+    requires { k + (block_size + 31) ≤ length bits.now }
+    ensures { 0 < result → Clear bits.now k (k + block_size) }
 {
     let mut all: u8 = 1;
     let mut i = 0;
@@ -98,7 +98,7 @@ fn seek(bits: &[u8], from: usize, end: usize) -> usize
 
 // Element i of what is kept and the piece after it; 0 past the end.
 fn joined_bit(kept: &[u8], piece: &[u8], i: usize) -> u8
-    requires { length kept.now ≡ windowBits }
+    requires { length kept.now ≡ window_bits }
     ensures { result ≡ get_or (kept.now ++ piece.now) i 0 }
 {
     if i < WINDOW_BITS {
@@ -115,7 +115,7 @@ const EDGE_BITS: usize = WINDOW_BITS + WINDOW_BITS - 1;
 
 // What is kept and the bits after it, as far as windows that start there go.
 fn edge(kept: &[u8], piece: &[u8]) -> [u8; EDGE_BITS]
-    requires { length kept.now ≡ windowBits }
+    requires { length kept.now ≡ window_bits }
     ensures { result ≡ edge_of (kept.now ++ piece.now) }
 {
     let mut bits = [0u8; EDGE_BITS];
@@ -129,8 +129,8 @@ fn edge(kept: &[u8], piece: &[u8]) -> [u8; EDGE_BITS]
 
 // The window at index k.
 fn window(bits: &[u8], k: usize) -> [u8; WINDOW_BITS]
-    requires { k + windowBits ≤ length bits.now }
-    ensures { result ≡ take windowBits (drop k bits.now) }
+    requires { k + window_bits ≤ length bits.now }
+    ensures { result ≡ take window_bits (drop k bits.now) }
 {
     let mut window = [0u8; WINDOW_BITS];
     let mut i = 0;
@@ -143,9 +143,9 @@ fn window(bits: &[u8], k: usize) -> [u8; WINDOW_BITS]
 
 // The window at index k of what is kept and the piece after it.
 pub fn window_at(kept: &[u8], piece: &[u8], k: usize) -> [u8; WINDOW_BITS]
-    requires kept_len { length kept.now ≡ windowBits }
+    requires kept_len { length kept.now ≡ window_bits }
     requires k_in_bounds { k ≤ length piece.now }
-    ensures { result ≡ take windowBits (drop k (kept.now ++ piece.now)) }
+    ensures { result ≡ take window_bits (drop k (kept.now ++ piece.now)) }
 {
     if k < WINDOW_BITS {
         let edge = edge(kept, piece);
@@ -156,9 +156,9 @@ pub fn window_at(kept: &[u8], piece: &[u8], k: usize) -> [u8; WINDOW_BITS]
 
 // The lowest index of the marker from `from` on and below `end`, where it starts in what is kept.
 fn in_edge(kept: &[u8], piece: &[u8], from: usize, end: usize) -> usize
-    requires kept_len { length kept.now ≡ windowBits }
+    requires kept_len { length kept.now ≡ window_bits }
     requires from_lt_end { from < end }
-    requires end_le_window_bits { end ≤ windowBits }
+    requires end_le_window_bits { end ≤ window_bits }
     ensures { Sought (kept.now ++ piece.now) from end result }
 {
     let edge = edge(kept, piece);
@@ -167,8 +167,8 @@ fn in_edge(kept: &[u8], piece: &[u8], from: usize, end: usize) -> usize
 
 // The same where it starts in the piece, of a window that ends there.
 fn in_piece(kept: &[u8], piece: &[u8], from: usize) -> usize
-    requires kept_len { length kept.now ≡ windowBits }
-    requires window_bits_le_from { windowBits ≤ from }
+    requires kept_len { length kept.now ≡ window_bits }
+    requires window_bits_le_from { window_bits ≤ from }
     requires from_in_bounds { from ≤ length piece.now }
     ensures { Sought (kept.now ++ piece.now) from (length piece.now + 1) result }
 {
@@ -178,7 +178,7 @@ fn in_piece(kept: &[u8], piece: &[u8], from: usize) -> usize
 
 // The lowest index of the marker from `from` on, of a window that ends in the piece; one past the piece's length where there is none.
 pub fn next_index(kept: &[u8], piece: &[u8], from: usize) -> usize
-    requires kept_len { length kept.now ≡ windowBits }
+    requires kept_len { length kept.now ≡ window_bits }
     requires from_in_bounds { from ≤ length piece.now }
     ensures { Sought (kept.now ++ piece.now) from (length piece.now + 1) result }
 {

@@ -1,6 +1,6 @@
 // Numbers out of a record and into a reply: unsigned, high byte first.
 ghost use Rattle.std.specs.Prelude.{◌≡◌, ◌+◌, ◌-◌, ◌*◌, ◌^◌, ◌<◌, ◌≤◌, min, length};
-ghost use Rattle.marshalling.specs.Numbers.{twoAt, fourAt, eightAt};
+ghost use Rattle.marshalling.specs.Numbers.{two_at, four_at, eight_at};
 
 use crate::format;
 use crate::format::{Record, Reply};
@@ -16,7 +16,7 @@ pub fn wide(byte: u8) -> u64
 
 pub fn two_at(bytes: &[u8], at: usize) -> u64
     requires { at + 2 ≤ length bytes.now }
-    ensures value { result ≡ twoAt bytes.now at }
+    ensures value { result ≡ two_at bytes.now at }
     ensures upper_bound { result < 2 ^ 16 }
 {
     wide(bytes[at]) * 0x100 + wide(bytes[at + 1])
@@ -24,7 +24,7 @@ pub fn two_at(bytes: &[u8], at: usize) -> u64
 
 pub fn four_at(bytes: &[u8], at: usize) -> u64
     requires { at + 4 ≤ length bytes.now }
-    ensures value { result ≡ fourAt bytes.now at }
+    ensures value { result ≡ four_at bytes.now at }
     ensures upper_bound { result < 2 ^ 32 }
 {
     two_at(bytes, at) * 0x1_0000 + two_at(bytes, at + 2)
@@ -32,7 +32,7 @@ pub fn four_at(bytes: &[u8], at: usize) -> u64
 
 pub fn eight_at(bytes: &[u8], at: usize) -> u64
     requires { at + 8 ≤ length bytes.now }
-    ensures { result ≡ eightAt bytes.now at }
+    ensures { result ≡ eight_at bytes.now at }
 {
     four_at(bytes, at) * 0x1_0000_0000 + four_at(bytes, at + 4)
 }
@@ -48,7 +48,7 @@ pub fn edition_of(record: &Record) -> Edition {
 // A length or a room. One past `most` counts as `most`; no record of the independent program has one.
 pub fn length_at(bytes: &[u8], at: usize, most: usize) -> usize
     requires { at + 2 ≤ length bytes.now }
-    ensures value { result ≡ min most (twoAt bytes.now at) }
+    ensures value { result ≡ min most (two_at bytes.now at) }
     ensures upper_bound { result ≤ most }
 {
     let length = two_at(bytes, at) as usize;

@@ -2,10 +2,10 @@
 // the text from the heading to the last line, are `reporting`'s.
 ghost use Rattle.std.specs.Prelude.{◌≡◌, ◌+◌, ◌*◌, ◌<◌, ◌≤◌, length};
 ghost use Rattle.word.specs.Repairs.{syndromes};
-ghost use Rattle.lines.specs.Tallies.{nothingHeard, total_of};
-ghost use Rattle.lines.specs.Rooms.{lineRoom};
-ghost use Rattle.marks.specs.Pieces.{longestRecording, freshState};
-ghost use Rattle.night.specs.Turns.{afterStop, AllTold, Moves, Goes, Whole, Closing};
+ghost use Rattle.lines.specs.Tallies.{nothing_heard, total_of};
+ghost use Rattle.lines.specs.Rooms.{line_room};
+ghost use Rattle.marks.specs.Pieces.{longest_recording, fresh_state};
+ghost use Rattle.night.specs.Turns.{after_stop, AllTold, Moves, Goes, Whole, Closing};
 ghost use Rattle.streams.specs.declared.Next.TheVariants.{Done};
 
 use base::Edition;
@@ -33,8 +33,8 @@ fn report_all(
 ) -> Progress
     requires table_value { table.now ≡ syndromes }
     requires start_bound { total_of start ≤ state.total }
-    requires piece_bound { state.total + length piece.now ≤ longestRecording }
-    requires line_room_in_bounds { lineRoom ≤ length out.old }
+    requires piece_bound { state.total + length piece.now ≤ longest_recording }
+    requires line_room_in_bounds { line_room ≤ length out.old }
     ensures { AllTold edition state piece.now start result }
 {
     let mut tally = start;
@@ -70,7 +70,7 @@ struct Turned {
 
 // How to go on after a read, a stop or none, and the write that followed.
 fn after_stop(read: Next, stop: Stop, wrote: bool) -> Next
-    ensures { result ≡ afterStop read stop wrote }
+    ensures { result ≡ after_stop read stop wrote }
 {
     match stop {
         Stop::Nowhere => after_write(read, wrote),
@@ -90,7 +90,7 @@ fn take_bits(
 ) -> Turned
     requires table_value { table.now ≡ syndromes }
     requires tally_bound { total_of tally ≤ state.total }
-    requires line_room_in_bounds { lineRoom ≤ length out.old }
+    requires line_room_in_bounds { line_room ≤ length out.old }
     ensures { Moves edition state tally bits.now result }
 {
     let taking = reporting::take_front(state, bits);
@@ -120,7 +120,7 @@ fn turn(
     requires table_value { table.now ≡ syndromes }
     requires tally_bound { total_of tally ≤ state.total }
     requires buf_nonzero { 0 < length buf.old }
-    requires line_room_in_bounds { lineRoom ≤ length out.old }
+    requires line_room_in_bounds { line_room ≤ length out.old }
     ensures { Goes edition state tally buf.new result }
 {
     let filled = read_on(buf, 0);
@@ -131,7 +131,7 @@ fn turn(
 
 // Writes the last line, after why the search stopped. There is none where it failed.
 fn finish(done: Turned, out: &mut [u8])
-    requires { 2 * lineRoom ≤ length out.old }
+    requires { 2 * line_room ≤ length out.old }
     ensures { Closing done out.old out.new }
 {
     let next = done.next;
@@ -157,10 +157,10 @@ fn search_input(
     out: &mut [u8],
 ) -> Turned
     requires table_value { table.now ≡ syndromes }
-    requires state_value { start.state ≡ freshState }
-    requires tally_value { start.tally ≡ nothingHeard }
+    requires state_value { start.state ≡ fresh_state }
+    requires tally_value { start.tally ≡ nothing_heard }
     requires buf_nonzero { 0 < length buf.old }
-    requires line_room_in_bounds { lineRoom ≤ length out.old }
+    requires line_room_in_bounds { line_room ≤ length out.old }
     ensures { result.next ≡ Done → Whole edition buf.new result }
 {
     let mut state = start.state;

@@ -1,7 +1,7 @@
 // The words after a program's name: `--strict`, and `--edition` with one of `flown` and `corrected`; a text; a number.
 ghost use Rattle.std.specs.Prelude.{◌≡◌};
-ghost use Rattle.options.specs.Numbers.{digitOf, parsedOf, Said};
-ghost use Rattle.options.specs.Words.{sameOf, word_of, Given, settled_of, mistakenOf, editionBy, optionBy, after_of, inAll, Asked};
+ghost use Rattle.options.specs.Numbers.{digit_of, parsed_of, Said};
+ghost use Rattle.options.specs.Words.{same_of, word_of, Given, settled_of, mistaken_of, edition_by, option_by, after_of, in_all, Asked};
 
 use base::Edition;
 use libc::STDERR_FILENO;
@@ -31,7 +31,7 @@ const ROOM: usize = 16;
 
 // Whether two slices are the same bytes.
 fn same(a: &[u8], b: &[u8]) -> bool
-    ensures { result ≡ sameOf a.now b.now }
+    ensures { result ≡ same_of a.now b.now }
 {
     let n = a.len();
     if n != b.len() {
@@ -89,7 +89,7 @@ fn settled(asked: Options, edition: Edition) -> Options
 
 // What was asked for, with a wrong word.
 fn mistaken(asked: Options) -> Options
-    ensures { result ≡ mistakenOf asked }
+    ensures { result ≡ mistaken_of asked }
 {
     let edition = asked.edition;
     Options {
@@ -102,7 +102,7 @@ fn mistaken(asked: Options) -> Options
 
 // What is asked for with the word after `--edition`.
 fn after_edition(asked: Options, word: Word) -> Options
-    ensures { result ≡ editionBy asked word }
+    ensures { result ≡ edition_by asked word }
 {
     match word {
         Word::SaysFlown => settled(asked, Edition::Flown),
@@ -115,7 +115,7 @@ fn after_edition(asked: Options, word: Word) -> Options
 
 // What is asked for with any other word.
 fn after_option(asked: Options, word: Word) -> Options
-    ensures { result ≡ optionBy asked word }
+    ensures { result ≡ option_by asked word }
 {
     let edition = asked.edition;
     match word {
@@ -149,7 +149,7 @@ fn after(asked: Options, word: Word) -> Options
 
 // What is asked for after the last word. One that is still to come after `--edition` is missing.
 fn in_all(asked: Options) -> Options
-    ensures { result ≡ inAll asked }
+    ensures { result ≡ in_all asked }
 {
     let strict = asked.strict;
     let edition = asked.edition;
@@ -201,7 +201,7 @@ pub enum Parsed {
 
 // The number that some digits and one more make, or more than the most where that is no digit.
 fn next_number(number: u32, letter: u8) -> u64
-    ensures { result ≡ digitOf number letter }
+    ensures { result ≡ digit_of number letter }
 {
     if letter < b'0' {
         return MOST + 1;
@@ -214,7 +214,7 @@ fn next_number(number: u32, letter: u8) -> u64
 
 // The number that a word's decimal digits make.
 fn parse(word: &[u8]) -> Parsed
-    ensures { result ≡ parsedOf word.now }
+    ensures { result ≡ parsed_of word.now }
 {
     if word.len() == 0 {
         return Parsed::NoNumber;

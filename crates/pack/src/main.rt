@@ -1,7 +1,7 @@
 // Writes the lines of text on standard input as records, after each read. It moves bytes and does nothing else: the records are
 // `packing`'s. Where a line is wrong it stops, and tells on standard error which line, at which column, why, and what to write.
 ghost use Rattle.std.specs.Prelude.{◌*◌, ◌<◌, ◌≤◌, length};
-ghost use Rattle.packing.specs.Lines.{longestLine};
+ghost use Rattle.packing.specs.Lines.{longest_line};
 
 use libc::STDERR_FILENO;
 use packing::{Fault, Judged, is_wrong};
@@ -68,7 +68,7 @@ fn tell_wrong(line: u64, judged: Judged) {
 // Packs the input, read by read. Where a read or a write fails, the records up to there are written, and nothing is told.
 // The turns are counted down from a number that no run uses up: each but the last reads a byte.
 fn pack(buf: &mut [u8], out: &mut [u8])
-    requires longest_line_in_bounds { longestLine < length buf.old }
+    requires longest_line_in_bounds { longest_line < length buf.old }
     requires buf_in_bounds { 2 * length buf.old ≤ length out.old }
 {
     let mut lines = 0;

@@ -9,44 +9,44 @@ use Rattle.packing.specs.declared.Judged.TheVariants.{Fine, Wrong}
 use Rattle.packing.specs.declared.Fault.TheVariants.{LongLine}
 use Rattle.packing.specs.declared.Front.{Front}
 use Rattle.packing.specs.declared.Front.TheVariants.{Line, TooLong, Unended}
-use Rattle.packing.specs.Lines.{longestLine, packOf}
+use Rattle.packing.specs.Lines.{longest_line, pack_of}
 
 -- whether a line is wrong
-abbrev pub wrongOf : Judged → Bool
-wrongOf Fine = false
-wrongOf (Wrong fault column) = true
+abbrev pub wrong_of : Judged → Bool
+wrong_of Fine = false
+wrong_of (Wrong fault column) = true
 
 -- what stands at the front of some bytes: a line ends at the first line feed
-unfoldable pub frontOf : List ℕ → Front
-frontOf l =
+unfoldable pub front_of : List ℕ → Front
+front_of l =
     first Unended
-    (check (nat_lt longestLine (place_in l 10)) TooLong
+    (check (nat_lt longest_line (place_in l 10)) TooLong
     ∷ check (nat_lt (place_in l 10) (length l)) (Line (place_in l 10))
     ∷ [])
 
 -- so many lines, and some more: a number past 2^64, which no input reaches, would wrap
-abbrev pub linesAfter : ℕ → ℕ → ℕ
-linesAfter lines more = (lines + more) % 2 ^ 64
+abbrev pub lines_after : ℕ → ℕ → ℕ
+lines_after lines more = (lines + more) % 2 ^ 64
 
 -- a whole line is packed where it is well, and a wrong one stops what is packed
-abbrev pub judgedFront : ℕ → Judged → WalkFront ℕ Judged
-judgedFront n Fine = whole n
-judgedFront n (Wrong fault column) = stops (Wrong fault column)
+abbrev pub judged_front : ℕ → Judged → WalkFront ℕ Judged
+judged_front n Fine = whole n
+judged_front n (Wrong fault column) = stops (Wrong fault column)
 
-abbrev pub lineFront : List ℕ → Front → WalkFront ℕ Judged
-lineFront l (Line n) = judgedFront n (packOf (take n l)).judged
-lineFront l TooLong = stops (Wrong LongLine (longestLine + 1))
-lineFront l Unended = waits
+abbrev pub line_front : List ℕ → Front → WalkFront ℕ Judged
+line_front l (Line n) = judged_front n (pack_of (take n l)).judged
+line_front l TooLong = stops (Wrong LongLine (longest_line + 1))
+line_front l Unended = waits
 
 -- lines one after the other: how many there were is kept, and a line's text is its record
-abbrev pub packWalk : Walk ℕ ℕ Judged
-packWalk = record { cut = λ lines l. lineFront l (frontOf l); size = λ n. n + 1; next = λ lines n l. linesAfter lines 1; text = λ lines n l. (packOf (take n l)).bytes }
+abbrev pub pack_walk : Walk ℕ ℕ Judged
+pack_walk = record { cut = λ lines l. line_front l (front_of l); size = λ n. n + 1; next = λ lines n l. lines_after lines 1; text = λ lines n l. (pack_of (take n l)).bytes }
 
 -- how it ended, by what is wrong with the next line
-abbrev pub judgedEnds : Judged → Ended Judged
-judgedEnds Fine = waiting
-judgedEnds (Wrong fault column) = stopped (Wrong fault column)
+abbrev pub judged_ends : Judged → Ended Judged
+judged_ends Fine = waiting
+judged_ends (Wrong fault column) = stopped (Wrong fault column)
 
 -- what becomes of some bytes, the first lines being counted from 0
-abbrev pub scanOf : List ℕ → Walked ℕ Judged
-scanOf l = walk_of packWalk 0 l
+abbrev pub scan_of : List ℕ → Walked ℕ Judged
+scan_of l = walk_of pack_walk 0 l

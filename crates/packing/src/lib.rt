@@ -1,13 +1,13 @@
 // Lines of text to records, the way back of `unpacking`: every line of a piece is packed, up to the first that is wrong.
 ghost use Rattle.std.specs.Prelude.{◌≡◌, ◌+◌, ◌*◌, ◌<◌, ◌≤◌, false, length};
-ghost use Rattle.air.specs.Air.{payloadLimit};
+ghost use Rattle.air.specs.Air.{payload_limit};
 ghost use Rattle.base.specs.Lists.{place_in};
 ghost use Rattle.text.specs.Text.{Put};
 ghost use Rattle.record.specs.Records.{length_of};
-ghost use Rattle.packing.specs.Digits.{digitValue, digitsAhead, AreDigits, bitsIn, bytesIn};
-ghost use Rattle.packing.specs.Lines.{longestLine, headerJudged, payloadJudged, judgedOf, headerBytes, recordOf, end_in, passedOver, digitsFrom};
+ghost use Rattle.packing.specs.Digits.{digit_value, digits_ahead, AreDigits, bits_in, bytes_in};
+ghost use Rattle.packing.specs.Lines.{longest_line, header_judged, payload_judged, judged_of, header_bytes, record_of, end_in, passed_over, digits_from};
 ghost use Rattle.walk.specs.Scans.{Scanned, Turned};
-ghost use Rattle.packing.specs.Packing.{frontOf, wrongOf, packWalk, judgedEnds};
+ghost use Rattle.packing.specs.Packing.{front_of, wrong_of, pack_walk, judged_ends};
 ghost use Rattle.packing.specs.Pieces.{opened};
 ghost use Rattle.packing.specs.Promises.{PacksParts, Packs, Closes};
 
@@ -86,7 +86,7 @@ pub enum Front {
 
 // What a letter is worth as a digit of a base up to 16.
 fn digit_value(letter: u8) -> u8
-    ensures { result ≡ digitValue letter }
+    ensures { result ≡ digit_value letter }
 {
     if letter < b'0' {
         return NO_DIGIT;
@@ -125,7 +125,7 @@ fn find(letters: &[u8], mark: u8) -> usize
 
 // How many digits of a base stand in front.
 fn digits_ahead(letters: &[u8], base: u8) -> usize
-    ensures value { result ≡ digitsAhead base letters.now }
+    ensures value { result ≡ digits_ahead base letters.now }
     ensures upper_bound { result ≤ length letters.now }
 {
     let mut i = 0;
@@ -141,7 +141,7 @@ fn digits_ahead(letters: &[u8], base: u8) -> usize
 // Puts a byte for each digit.
 fn put_bits(out: &mut [u8], at: usize, letters: &[u8]) -> usize
     requires { at + length letters.now ≤ length out.old }
-    ensures put { Put out.old at (bitsIn letters.now) out.new result }
+    ensures put { Put out.old at (bits_in letters.now) out.new result }
     ensures upper_bound { result ≤ at + length letters.now }
 {
     let mut to = at;
@@ -156,8 +156,8 @@ fn put_bits(out: &mut [u8], at: usize, letters: &[u8]) -> usize
 
 // The byte of two hex digits.
 fn byte_of(high: u8, low: u8) -> u8
-    requires { (digitValue high < 16) × (digitValue low < 16) }
-    ensures { result ≡ digitValue high * 16 + digitValue low }
+    requires { (digit_value high < 16) × (digit_value low < 16) }
+    ensures { result ≡ digit_value high * 16 + digit_value low }
 {
     digit_value(high) * 16 + digit_value(low)
 }
@@ -166,7 +166,7 @@ fn byte_of(high: u8, low: u8) -> u8
 fn put_hex(out: &mut [u8], at: usize, letters: &[u8]) -> usize
     requires are_digits { AreDigits 16 letters.now }
     requires letters_in_bounds { at + length letters.now ≤ length out.old }
-    ensures put { Put out.old at (bytesIn letters.now) out.new result }
+    ensures put { Put out.old at (bytes_in letters.now) out.new result }
     ensures upper_bound { result ≤ at + length letters.now }
 {
     let mut to = at;
@@ -181,8 +181,8 @@ fn put_hex(out: &mut [u8], at: usize, letters: &[u8]) -> usize
 
 // Whether a header is 210 bits or 420 hex digits.
 fn judge_header(header: &[u8]) -> Judged
-    requires { length header.now ≤ longestLine }
-    ensures { result ≡ headerJudged header.now }
+    requires { length header.now ≤ longest_line }
+    ensures { result ≡ header_judged header.now }
 {
     let n = header.len();
     if n == AIR_BITS {
@@ -213,8 +213,8 @@ fn judge_header(header: &[u8]) -> Judged
 
 // Whether a payload, whose first digit stands at a column, is whole bytes in hex.
 fn judge_payload(digits: &[u8], column: usize) -> Judged
-    requires { column ≤ longestLine + 2 }
-    ensures { result ≡ payloadJudged column digits.now }
+    requires { column ≤ longest_line + 2 }
+    ensures { result ≡ payload_judged column digits.now }
 {
     if MOST_DIGITS < digits.len() {
         return Judged::Wrong {
@@ -240,8 +240,8 @@ fn judge_payload(digits: &[u8], column: usize) -> Judged
 
 // Whether the two parts of a line are those of a record.
 fn judge(header: &[u8], digits: &[u8]) -> Judged
-    requires { length header.now ≤ longestLine }
-    ensures { result ≡ judgedOf header.now digits.now }
+    requires { length header.now ≤ longest_line }
+    ensures { result ≡ judged_of header.now digits.now }
 {
     match judge_header(header) {
         Judged::Wrong { fault, column } => Judged::Wrong { fault, column },
@@ -251,7 +251,7 @@ fn judge(header: &[u8], digits: &[u8]) -> Judged
 
 // Puts a record's length, the high byte first.
 fn put_size(out: &mut [u8], at: usize, n: usize) -> usize
-    requires n_le_payload_limit { n ≤ payloadLimit }
+    requires n_le_payload_limit { n ≤ payload_limit }
     requires at_in_bounds { at + 2 ≤ length out.old }
     ensures put { Put out.old at (length_of n) out.new result }
     ensures upper_bound { result ≤ at + 2 }
@@ -262,9 +262,9 @@ fn put_size(out: &mut [u8], at: usize, n: usize) -> usize
 
 // Puts the bytes of a header that is well.
 fn put_header(out: &mut [u8], at: usize, header: &[u8]) -> usize
-    requires value { Judged.Fine ≡ headerJudged header.now }
+    requires value { Judged.Fine ≡ header_judged header.now }
     requires header_in_bounds { at + length header.now ≤ length out.old }
-    ensures put { Put out.old at (headerBytes header.now) out.new result }
+    ensures put { Put out.old at (header_bytes header.now) out.new result }
     ensures upper_bound { result ≤ at + length header.now }
 {
     if header.len() == HEADER_DIGITS {
@@ -275,9 +275,9 @@ fn put_header(out: &mut [u8], at: usize, header: &[u8]) -> usize
 
 // Puts the record of a line whose parts are well.
 fn put_record(out: &mut [u8], at: usize, header: &[u8], digits: &[u8]) -> usize
-    requires value { Judged.Fine ≡ judgedOf header.now digits.now }
+    requires value { Judged.Fine ≡ judged_of header.now digits.now }
     requires digits_in_bounds { at + (2 + (length header.now + length digits.now)) ≤ length out.old }
-    ensures put { Put out.old at (recordOf header.now digits.now) out.new result }
+    ensures put { Put out.old at (record_of header.now digits.now) out.new result }
     ensures upper_bound { result ≤ at + (2 + (length header.now + length digits.now)) }
 {
     let a = put_size(out, at, digits.len() / 2);
@@ -287,7 +287,7 @@ fn put_record(out: &mut [u8], at: usize, header: &[u8], digits: &[u8]) -> usize
 
 // Packs the two parts of a line, where they are well.
 fn pack_parts(header: &[u8], digits: &[u8], out: &mut [u8], at: usize) -> Packed
-    requires header_len_bound { length header.now ≤ longestLine }
+    requires header_len_bound { length header.now ≤ longest_line }
     requires digits_in_bounds { at + 2 * (length header.now + length digits.now) ≤ length out.old }
     ensures { PacksParts header.now digits.now out.old at out.new result }
 {
@@ -323,7 +323,7 @@ fn letters_end(line: &[u8]) -> usize
 
 // Whether letters are passed over: where there are none, and where the first is `#`.
 fn is_passed(letters: &[u8]) -> bool
-    ensures { result ≡ passedOver letters.now }
+    ensures { result ≡ passed_over letters.now }
 {
     if letters.len() == 0 {
         return true;
@@ -334,7 +334,7 @@ fn is_passed(letters: &[u8]) -> bool
 // Where a payload starts: after the space, where there is one.
 fn digits_from(letters: &[u8], space: usize) -> usize
     requires { space ≡ place_in letters.now 32 }
-    ensures value { result ≡ digitsFrom letters.now }
+    ensures value { result ≡ digits_from letters.now }
     ensures upper_bound { result ≤ length letters.now }
 {
     if space < letters.len() {
@@ -345,7 +345,7 @@ fn digits_from(letters: &[u8], space: usize) -> usize
 
 // Packs a line, without its line feed: its record goes into `out` at `at`, where it is one.
 pub fn pack_line(line: &[u8], out: &mut [u8], at: usize) -> Packed
-    requires line_len_bound { length line.now ≤ longestLine }
+    requires line_len_bound { length line.now ≤ longest_line }
     requires line_in_bounds { at + 2 * length line.now ≤ length out.old }
     ensures { Packs line.now out.old at out.new result }
 {
@@ -364,7 +364,7 @@ pub fn pack_line(line: &[u8], out: &mut [u8], at: usize) -> Packed
 
 // What stands at the front of some bytes.
 fn next_line(rest: &[u8]) -> Front
-    ensures { result ≡ frontOf rest.now }
+    ensures { result ≡ front_of rest.now }
 {
     let end = find(rest, b'\n');
     if LONGEST_LINE < end {
@@ -378,7 +378,7 @@ fn next_line(rest: &[u8]) -> Front
 
 // Whether a line is wrong, so that no more are packed.
 pub fn is_wrong(judged: Judged) -> bool
-    ensures { result ≡ wrongOf judged }
+    ensures { result ≡ wrong_of judged }
 {
     match judged {
         Judged::Fine => false,
@@ -390,7 +390,7 @@ pub fn is_wrong(judged: Judged) -> bool
 // than twice as long as its line. `start` lines came before; a number of lines past 2^64, which no input reaches, would wrap.
 pub fn pack_lines(start: u64, piece: &[u8], out: &mut [u8], at: usize) -> PackedLines
     requires { at + 2 * length piece.now ≤ length out.old }
-    ensures { Scanned packWalk 2 start piece.now out.old at out.new result.lines result.left result.to (judgedEnds result.judged) }
+    ensures { Scanned pack_walk 2 start piece.now out.old at out.new result.lines result.left result.to (judged_ends result.judged) }
 {
     let mut lines = start;
     let mut used = 0;
@@ -438,7 +438,7 @@ pub fn open() -> Judged
 pub fn pack_piece(lines: u64, buf: &mut [u8], end: usize, out: &mut [u8]) -> PackedLines
     requires end_in_bounds { end ≤ length buf.old }
     requires end_in_bounds_2 { 2 * end ≤ length out.old }
-    ensures { Turned packWalk 2 lines buf.old end out.old buf.new out.new result.lines result.left result.to (judgedEnds result.judged) }
+    ensures { Turned pack_walk 2 lines buf.old end out.old buf.new out.new result.lines result.left result.to (judged_ends result.judged) }
 {
     let packed = pack_lines(lines, &buf[..end], out, 0);
     let left = packed.left;
@@ -449,7 +449,7 @@ pub fn pack_piece(lines: u64, buf: &mut [u8], end: usize, out: &mut [u8]) -> Pac
 // After so many lines the input has ended, or a line is wrong. Where none is, the rest is a last line that no line feed ended, and its
 // record goes to the front of `out`.
 pub fn close(lines: u64, judged: Judged, rest: &[u8], out: &mut [u8]) -> Ended
-    requires rest_len_bound { wrongOf judged ≡ false → length rest.now ≤ longestLine }
+    requires rest_len_bound { wrong_of judged ≡ false → length rest.now ≤ longest_line }
     requires rest_in_bounds { 2 * length rest.now ≤ length out.old }
     ensures { Closes lines judged rest.now out.old out.new result }
 {

@@ -4,10 +4,10 @@ mod tables;
 
 ghost use Rattle.std.specs.Prelude.{◌≡◌, ◌+◌, ◌<◌, ◌≤◌, length};
 ghost use Rattle.text.specs.Text.{Put};
-ghost use Rattle.lines.specs.Tallies.{mostCounted};
-ghost use Rattle.page_lines.specs.Counting.{recordsHeard, countedOf};
-ghost use Rattle.page_lines.specs.Lines.{title, headLine, pageLines, answerLines, recordLines, pagesLine, closingOf};
-ghost use Rattle.page_lines.specs.Rooms.{headRoom, pageRoom, closingRoom};
+ghost use Rattle.lines.specs.Tallies.{most_counted};
+ghost use Rattle.page_lines.specs.Counting.{records_heard, counted_of};
+ghost use Rattle.page_lines.specs.Lines.{title, head_line, lines_of_page, answer_lines, record_lines, pages_line, closing_of};
+ghost use Rattle.page_lines.specs.Rooms.{head_room, page_room, closing_room};
 
 use header::Answer;
 use page::{PageAnswer, PageVerdict};
@@ -24,15 +24,15 @@ pub struct Counts {
 
 // All of them.
 pub fn heard_in(counts: Counts) -> u64
-    ensures { result ≡ recordsHeard counts }
+    ensures { result ≡ records_heard counts }
 {
     counts.pages as u64 + counts.others as u64 + counts.refused as u64
 }
 
 // One record more, whose frame has this answer, and its payload this one.
 pub fn count(counts: Counts, answer: Answer, verdict: PageVerdict) -> Counts
-    requires { recordsHeard counts < mostCounted }
-    ensures { result ≡ countedOf counts verdict answer }
+    requires { records_heard counts < most_counted }
+    ensures { result ≡ counted_of counts verdict answer }
 {
     let pages = counts.pages;
     let others = counts.others;
@@ -60,9 +60,9 @@ pub fn count(counts: Counts, answer: Answer, verdict: PageVerdict) -> Counts
 
 // Opens the lines of a page in record k: who spoke, and the frame's counter.
 fn put_head(out: &mut [u8], at: usize, k: u64, src_id: u8, tx: u8) -> usize
-    requires { at + headRoom ≤ length out.old }
-    ensures put { Put out.old at (headLine k src_id tx) out.new result }
-    ensures upper_bound { result ≤ at + headRoom }
+    requires { at + head_room ≤ length out.old }
+    ensures put { Put out.old at (head_line k src_id tx) out.new result }
+    ensures upper_bound { result ≤ at + head_room }
 {
     let letter = lines::letter(src_id);
     let radio = header::radio(src_id);
@@ -76,9 +76,9 @@ fn put_head(out: &mut [u8], at: usize, k: u64, src_id: u8, tx: u8) -> usize
 }
 
 fn put_page(out: &mut [u8], at: usize, k: u64, src_id: u8, tx: u8, rows: [i16; ROWS]) -> usize
-    requires { at + pageRoom ≤ length out.old }
-    ensures put { Put out.old at (pageLines k src_id tx rows) out.new result }
-    ensures upper_bound { result ≤ at + pageRoom }
+    requires { at + page_room ≤ length out.old }
+    ensures put { Put out.old at (lines_of_page k src_id tx rows) out.new result }
+    ensures upper_bound { result ≤ at + page_room }
 {
     let a = put_head(out, at, k, src_id, tx);
     put_rows(out, a, k, rows)
@@ -86,9 +86,9 @@ fn put_page(out: &mut [u8], at: usize, k: u64, src_id: u8, tx: u8, rows: [i16; R
 
 // Puts the lines of an accepted record k: its page, or why its payload is none.
 fn put_answer(out: &mut [u8], at: usize, k: u64, src_id: u8, tx: u8, page: PageAnswer) -> usize
-    requires { at + pageRoom ≤ length out.old }
-    ensures put { Put out.old at (answerLines k src_id tx page) out.new result }
-    ensures upper_bound { result ≤ at + pageRoom }
+    requires { at + page_room ≤ length out.old }
+    ensures put { Put out.old at (answer_lines k src_id tx page) out.new result }
+    ensures upper_bound { result ≤ at + page_room }
 {
     let rows = page.rows;
     let verdict = page.verdict;
@@ -100,9 +100,9 @@ fn put_answer(out: &mut [u8], at: usize, k: u64, src_id: u8, tx: u8, page: PageA
 
 // Puts the lines of record k, whose frame has this answer, and its payload that one.
 pub fn put_record(out: &mut [u8], at: usize, k: u64, answer: Answer, page: PageAnswer) -> usize
-    requires { at + pageRoom ≤ length out.old }
-    ensures put { Put out.old at (recordLines k page answer) out.new result }
-    ensures upper_bound { result ≤ at + pageRoom }
+    requires { at + page_room ≤ length out.old }
+    ensures put { Put out.old at (record_lines k page answer) out.new result }
+    ensures upper_bound { result ≤ at + page_room }
 {
     match answer {
         Answer::Accepted { header, flips } => put_answer(
@@ -119,15 +119,15 @@ pub fn put_record(out: &mut [u8], at: usize, k: u64, answer: Answer, page: PageA
 
 // Puts the first line.
 pub fn put_title(out: &mut [u8]) -> usize
-    requires { closingRoom ≤ length out.old }
+    requires { closing_room ≤ length out.old }
     ensures { Put out.old 0 title out.new result }
 {
     text::put_text(out, 0, b"power pages\n")
 }
 
 fn put_last(out: &mut [u8], at: usize, counts: Counts) -> usize
-    requires { at + closingRoom ≤ length out.old + 4 }
-    ensures { Put out.old at (pagesLine counts) out.new result }
+    requires { at + closing_room ≤ length out.old + 4 }
+    ensures { Put out.old at (pages_line counts) out.new result }
 {
     let pages = counts.pages as u64;
     let accepted = pages + counts.others as u64;
@@ -143,8 +143,8 @@ fn put_last(out: &mut [u8], at: usize, counts: Counts) -> usize
 
 // Puts the last line, after `cut` where the input was cut.
 pub fn put_closing(out: &mut [u8], at: usize, counts: Counts, cut: bool) -> usize
-    requires { at + closingRoom ≤ length out.old }
-    ensures { Put out.old at (closingOf counts cut) out.new result }
+    requires { at + closing_room ≤ length out.old }
+    ensures { Put out.old at (closing_of counts cut) out.new result }
 {
     if cut {
         let a = text::put_text(out, at, b"cut\n");

@@ -6,27 +6,27 @@ use mathlib.Core.List.{List}
 use Prim.Native.Nat.{ℕ, ◌≤◌}
 use native.Mathlib.Omega.{arith}
 use lib.ListN.{length, take}
-use Rattle.air.specs.Air.{payloadLimit}
+use Rattle.air.specs.Air.{payload_limit}
 use Rattle.header.specs.declared.Rules.{Rules}
 use Rattle.page_lines.specs.declared.Counts.{Counts}
 use Rattle.record.specs.declared.Ending.{Ending}
-use Rattle.record.specs.Records.{recordSize}
-use Rattle.record.specs.Walks.{ended_as, overOf}
+use Rattle.record.specs.Records.{record_size}
+use Rattle.record.specs.Walks.{ended_as, over_of}
 use Rattle.walk.specs.Scans.{Turned}
 use Rattle.streams.specs.declared.Filled.{Filled}
 use Rattle.streams.specs.declared.Next.{Next}
 use Rattle.streams.specs.declared.Next.TheVariants.{More}
 use Rattle.streams.specs.Turns.{ReadOn, TurnsLeft}
 use Rattle.streams.proofs.Rounds.{Ready, goes_on}
-use Rattle.record.proofs.Walking.{left-of-records}
-use Rattle.page_listing.specs.Listing.{growth, pagesFull, countsIn, linesIn, pageWalk}
-use Rattle.page_listing.proofs.Streaming.{page-sound}
+use Rattle.record.proofs.Walking.{left_of_records}
+use Rattle.page_listing.specs.Listing.{growth, pages_full, counts_in, lines_in, page_walk}
+use Rattle.page_listing.proofs.Streaming.{page_sound}
 
-pub lists-on : (rules : Rules) (c : Counts) (buf₀ out₀ buf out : List ℕ) (kept turns : ℕ) → Ready (recordSize payloadLimit) buf₀ out₀ buf out kept turns → (filled : Filled) → ReadOn buf kept filled
+pub lists_on : (rules : Rules) (c : Counts) (buf₀ out₀ buf out : List ℕ) (kept turns : ℕ) → Ready (record_size payload_limit) buf₀ out₀ buf out kept turns → (filled : Filled) → ReadOn buf kept filled
     → (read : List ℕ) → length read ≡ length buf → (buf' out' : List ℕ) (after : Counts) (left to : ℕ) (ending : Ending)
-    → Turned (pageWalk rules) growth c read filled.end out buf' out' after left to (ended_as ending) → length buf' ≡ length read → length out' ≡ length out
-    → (over : Bool) → over ≡ overOf ending → (next : Next) → (next ≡ More → over ≡ false) → (turns' : ℕ) → TurnsLeft turns next turns'
-    → Ready (recordSize payloadLimit) buf₀ out₀ buf' out' left turns'
-lists-on rules c buf₀ out₀ buf out kept turns so filled was read same buf' out' after left to ending done input output over is next sent turns' turned =
-    goes_on (recordSize payloadLimit) buf₀ out₀ buf out kept turns so read buf' out' left over next turns' same input output
-    (omega (arith, done.inside, was.inside)) (λ e. left-of-records pagesFull (countsIn rules) (linesIn rules) (page-sound rules) growth c (take filled.end read) out 0 out' after left to ending done.listed (sym is ∙ e)) sent turned
+    → Turned (page_walk rules) growth c read filled.end out buf' out' after left to (ended_as ending) → length buf' ≡ length read → length out' ≡ length out
+    → (over : Bool) → over ≡ over_of ending → (next : Next) → (next ≡ More → over ≡ false) → (turns' : ℕ) → TurnsLeft turns next turns'
+    → Ready (record_size payload_limit) buf₀ out₀ buf' out' left turns'
+lists_on rules c buf₀ out₀ buf out kept turns so filled was read same buf' out' after left to ending done input output over is next sent turns' turned =
+    goes_on (record_size payload_limit) buf₀ out₀ buf out kept turns so read buf' out' left over next turns' same input output
+    (omega (arith, done.inside, was.inside)) (λ e. left_of_records pages_full (counts_in rules) (lines_in rules) (page_sound rules) growth c (take filled.end read) out 0 out' after left to ending done.listed (sym is ∙ e)) sent turned

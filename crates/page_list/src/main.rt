@@ -2,9 +2,9 @@
 // `page_listing`.
 ghost use Rattle.std.specs.Prelude.{◌≡◌, ◌*◌, ◌≤◌, length};
 ghost use Rattle.word.specs.Repairs.{syndromes};
-ghost use Rattle.air.specs.Air.{payloadLimit};
-ghost use Rattle.record.specs.Records.{recordSize};
-ghost use Rattle.page_listing.specs.Listing.{growth, pageRules};
+ghost use Rattle.air.specs.Air.{payload_limit};
+ghost use Rattle.record.specs.Records.{record_size};
+ghost use Rattle.page_listing.specs.Listing.{growth, page_rules};
 
 use air::MOST_FLIPS;
 use base::Edition;
@@ -17,8 +17,8 @@ use word::table::TABLE_ROWS;
 // The turns are counted down from a number that no run uses up: each but the last reads a byte.
 fn list(table: &[u16; TABLE_ROWS], rules: Rules, buf: &mut [u8], out: &mut [u8])
     requires table_value { table.now ≡ syndromes }
-    requires rules_value { rules ≡ pageRules }
-    requires payload_limit_in_bounds { recordSize payloadLimit ≤ length buf.old }
+    requires rules_value { rules ≡ page_rules }
+    requires payload_limit_in_bounds { record_size payload_limit ≤ length buf.old }
     requires buf_in_bounds { growth * length buf.old ≤ length out.old }
 {
     let opened = page_listing::open(out);

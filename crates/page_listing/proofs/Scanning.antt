@@ -8,26 +8,26 @@ use native.Mathlib.Omega.{arith}
 use lib.ListN.{length, take}
 use borrow.Author.Tests.{le-leb, lt-leb}
 use Rattle.header.specs.declared.Rules.{Rules}
-use Rattle.sheet.specs.Sheets.{fullSheet}
+use Rattle.sheet.specs.Sheets.{full_sheet}
 use Rattle.walk.proofs.Scanning as scan
-use Rattle.record.specs.Records.{recordSize}
+use Rattle.record.specs.Records.{record_size}
 use Rattle.page_lines.specs.declared.Counts.{Counts}
-use Rattle.page_lines.specs.Counting.{recordsHeard}
-use Rattle.page_lines.specs.Rooms.{pageRoom}
-use Rattle.page_listing.specs.Listing.{growth, pagesFull, pageWalk}
-use Rattle.page_listing.proofs.Streaming.{page-sound}
+use Rattle.page_lines.specs.Counting.{records_heard}
+use Rattle.page_lines.specs.Rooms.{page_room}
+use Rattle.page_listing.specs.Listing.{growth, pages_full, page_walk}
+use Rattle.page_listing.proofs.Streaming.{page_sound}
 
 abbrev pub Scanning : Rules → Counts → List ℕ → List ℕ → ℕ → List ℕ → Counts → ℕ → ℕ → Type 0
-Scanning rules = scan.Scanning (pageWalk rules) (page-sound rules) growth
+Scanning rules = scan.Scanning (page_walk rules) (page_sound rules) growth
 
 pub starts : (rules : Rules) (c : Counts) (l before : List ℕ) (at : ℕ) → at + growth * length l ≤ length before → Scanning rules c l before at before c 0 at
-starts rules c l before at room = scan.starts (pageWalk rules) (page-sound rules) growth c l before at room
+starts rules c l before at room = scan.starts (page_walk rules) (page_sound rules) growth c l before at room
 
-pub is-full : (c : Counts) (k : ℕ) → k ≡ recordsHeard c → fullSheet ≤ k → pagesFull c ≡ true
-is-full c k heard h = le-leb fullSheet (recordsHeard c) (omega arith)
+pub is_full : (c : Counts) (k : ℕ) → k ≡ records_heard c → full_sheet ≤ k → pages_full c ≡ true
+is_full c k heard h = le-leb full_sheet (records_heard c) (omega arith)
 
-pub has-place : (c : Counts) (k : ℕ) → k ≡ recordsHeard c → k < fullSheet → pagesFull c ≡ false
-has-place c k heard h = lt-leb fullSheet (recordsHeard c) (omega arith)
+pub has_place : (c : Counts) (k : ℕ) → k ≡ records_heard c → k < full_sheet → pages_full c ≡ false
+has_place c k heard h = lt-leb full_sheet (records_heard c) (omega arith)
 
-pub lines-small : (n : ℕ) → pageRoom ≤ growth * recordSize n
-lines-small n = omega arith
+pub lines_small : (n : ℕ) → page_room ≤ growth * record_size n
+lines_small n = omega arith

@@ -12,92 +12,92 @@ use borrow.Author.Rules.{rules}
 use borrow.Author.Tests.{lt-ltb, le-ltb, ltb-true, ltb-false}
 use Rattle.base.specs.Checks.{Check, check, first}
 use Rattle.base.proofs.First.{NoneApplies, first_passes}
-use Rattle.base.proofs.Tests.{lt-or-ge}
-use Rattle.air.specs.Air.{payloadLimit}
+use Rattle.base.proofs.Tests.{lt_or_ge}
+use Rattle.air.specs.Air.{payload_limit}
 use Rattle.record.specs.declared.Cut.{Cut}
 use Rattle.record.specs.declared.Cut.TheVariants.{Record, TooLong, Short}
-use Rattle.record.specs.Records.{lengthBytes, lengthIn, recordSize, longLength, endsEarly, cutChecks, cut_of}
+use Rattle.record.specs.Records.{length_bytes, length_in, record_size, long_length, ends_early, cut_checks, cut_of}
 
 -- BY THE TESTS
 module _ (l : List ℕ) where
-  pub no_length : length l < lengthBytes → Short ≡ cut_of l
+  pub no_length : length l < length_bytes → Short ≡ cut_of l
   unfolding cut_of
-  no_length few = rw (lt-ltb (length l) lengthBytes few)
+  no_length few = rw (lt-ltb (length l) length_bytes few)
 
   abbrev given : List (Check Cut) → Cut
-  given rows = first (Record (lengthIn l)) rows
+  given rows = first (Record (length_in l)) rows
 
-  module _ (two : lengthBytes ≤ length l) (n : ℕ) (is : n ≡ lengthIn l) where
-    past-length : given (longLength l ∷ endsEarly l ∷ []) ≡ cut_of l
+  module _ (two : length_bytes ≤ length l) (n : ℕ) (is : n ≡ length_in l) where
+    past_length : given (long_length l ∷ ends_early l ∷ []) ≡ cut_of l
     unfolding cut_of
-    past-length = rw (le-ltb (length l) lengthBytes two)
+    past_length = rw (le-ltb (length l) length_bytes two)
 
-    pub too_long : payloadLimit < n → TooLong ≡ cut_of l
-    too_long over = rw (← past-length, ← is, lt-ltb payloadLimit n over)
+    pub too_long : payload_limit < n → TooLong ≡ cut_of l
+    too_long over = rw (← past_length, ← is, lt-ltb payload_limit n over)
 
-    module _ (within : n ≤ payloadLimit) where
-      past-limit : given (endsEarly l ∷ []) ≡ cut_of l
-      past-limit = rw (← past-length, ← is, le-ltb payloadLimit n within)
+    module _ (within : n ≤ payload_limit) where
+      past_limit : given (ends_early l ∷ []) ≡ cut_of l
+      past_limit = rw (← past_length, ← is, le-ltb payload_limit n within)
 
-      pub ends-early : length l < recordSize n → Short ≡ cut_of l
-      ends-early few = rw (← past-limit, ← is, lt-ltb (length l) (recordSize n) few)
+      pub ends_early_lem : length l < record_size n → Short ≡ cut_of l
+      ends_early_lem few = rw (← past_limit, ← is, lt-ltb (length l) (record_size n) few)
 
-      pub is_whole : recordSize n ≤ length l → Record n ≡ cut_of l
-      is_whole all = rw (← past-limit, ← is, le-ltb (length l) (recordSize n) all)
+      pub is_whole : record_size n ≤ length l → Record n ≡ cut_of l
+      is_whole all = rw (← past_limit, ← is, le-ltb (length l) (record_size n) all)
 
 -- WHAT IT SAYS
 -- a whole record: its length is within the limit, and its bytes are there
 pub record WholeAt (l : List ℕ) (n : ℕ) : Type 0 where
-  pub is : n ≡ lengthIn l
-  pub within : n ≤ payloadLimit
-  pub there : recordSize n ≤ length l
+  pub is : n ≡ length_in l
+  pub within : n ≤ payload_limit
+  pub there : record_size n ≤ length l
 
 -- a length over the limit
 pub record LongAt (l : List ℕ) : Type 0 where
-  pub two : lengthBytes ≤ length l
-  pub over : payloadLimit < lengthIn l
+  pub two : length_bytes ≤ length l
+  pub over : payload_limit < length_in l
 
-cut-passed : (l : List ℕ) → NoneApplies (cutChecks l) → WholeAt l (lengthIn l)
-cut-passed l none = record {
+cut_passed : (l : List ℕ) → NoneApplies (cut_checks l) → WholeAt l (length_in l)
+cut_passed l none = record {
   is = refl;
-  within = ltb-false payloadLimit (lengthIn l) none.1.0;
-  there = ltb-false (length l) (recordSize (lengthIn l)) none.1.1.0;
+  within = ltb-false payload_limit (length_in l) none.1.0;
+  there = ltb-false (length l) (record_size (length_in l)) none.1.1.0;
 }
 
-short-whole : {n : ℕ} → Short ≡ Record n → ⊥
-short-whole e = let z : ◌≡◌ {A = ℕ} 0 1 = cc in omega arith
+short_whole : {n : ℕ} → Short ≡ Record n → ⊥
+short_whole e = let z : ◌≡◌ {A = ℕ} 0 1 = cc in omega arith
 
-long-whole : {n : ℕ} → TooLong ≡ Record n → ⊥
-long-whole e = let z : ◌≡◌ {A = ℕ} 0 1 = cc in omega arith
+long_whole : {n : ℕ} → TooLong ≡ Record n → ⊥
+long_whole e = let z : ◌≡◌ {A = ℕ} 0 1 = cc in omega arith
 
-short-long : Short ≡ TooLong → ⊥
-short-long e = let z : ◌≡◌ {A = ℕ} 0 1 = cc in omega arith
+short_long : Short ≡ TooLong → ⊥
+short_long e = let z : ◌≡◌ {A = ℕ} 0 1 = cc in omega arith
 
 module _ (l : List ℕ) where
-  pub whole-at : (n : ℕ) → cut_of l ≡ Record n → WholeAt l n
+  pub whole_at : (n : ℕ) → cut_of l ≡ Record n → WholeAt l n
   unfolding cut_of
-  whole-at n e =
-      let passed = first_passes (Record (lengthIn l)) (Record n) (cutChecks l) (search (rules, short-whole, long-whole)) e in
-      let same : lengthIn l ≡ n = cc passed.0 in
-      rw same at (cut-passed l passed.1)
+  whole_at n e =
+      let passed = first_passes (Record (length_in l)) (Record n) (cut_checks l) (search (rules, short_whole, long_whole)) e in
+      let same : length_in l ≡ n = cc passed.0 in
+      rw same at (cut_passed l passed.1)
 
-  pub long-at : cut_of l ≡ TooLong → LongAt l
+  pub long_at : cut_of l ≡ TooLong → LongAt l
   unfolding cut_of
-  long-at e = by (ltb (length l) lengthBytes) (ltb payloadLimit (lengthIn l)) (ltb (length l) (recordSize (lengthIn l))) (ltb-false (length l) lengthBytes) (ltb-true payloadLimit (lengthIn l)) e
+  long_at e = by (ltb (length l) length_bytes) (ltb payload_limit (length_in l)) (ltb (length l) (record_size (length_in l))) (ltb-false (length l) length_bytes) (ltb-true payload_limit (length_in l)) e
     where
-      by : (few over early : Bool) → (few ≡ false → lengthBytes ≤ length l) → (over ≡ true → payloadLimit < lengthIn l)
-          → first (Record (lengthIn l)) (check few Short ∷ check over TooLong ∷ check early Short ∷ []) ≡ TooLong → LongAt l
-      by true over early two more e = absurd (short-long e)
+      by : (few over early : Bool) → (few ≡ false → length_bytes ≤ length l) → (over ≡ true → payload_limit < length_in l)
+          → first (Record (length_in l)) (check few Short ∷ check over TooLong ∷ check early Short ∷ []) ≡ TooLong → LongAt l
+      by true over early two more e = absurd (short_long e)
       by false true early two more e = record { two = two refl; over = more refl }
-      by false false true two more e = absurd (short-long e)
-      by false false false two more e = absurd (long-whole (sym e))
+      by false false true two more e = absurd (short_long e)
+      by false false false two more e = absurd (long_whole (sym e))
 
   -- too few bytes for a record: fewer than the longest one has
-  pub short-at : cut_of l ≡ Short → length l < recordSize payloadLimit
-  short-at e =
-      ⊎_elim (λ (h : length l < recordSize payloadLimit). h)
-      (λ (h : recordSize payloadLimit ≤ length l).
-      ⊎_elim (λ (over : payloadLimit < lengthIn l). absurd (short-long (sym e ∙ sym (too_long l (omega arith) (lengthIn l) refl over))))
-      (λ (within : lengthIn l ≤ payloadLimit). absurd (short-whole (sym e ∙ sym (is_whole l (omega arith) (lengthIn l) refl within (omega arith)))))
-      (lt-or-ge payloadLimit (lengthIn l)))
-      (lt-or-ge (length l) (recordSize payloadLimit))
+  pub short_at : cut_of l ≡ Short → length l < record_size payload_limit
+  short_at e =
+      ⊎_elim (λ (h : length l < record_size payload_limit). h)
+      (λ (h : record_size payload_limit ≤ length l).
+      ⊎_elim (λ (over : payload_limit < length_in l). absurd (short_long (sym e ∙ sym (too_long l (omega arith) (length_in l) refl over))))
+      (λ (within : length_in l ≤ payload_limit). absurd (short_whole (sym e ∙ sym (is_whole l (omega arith) (length_in l) refl within (omega arith)))))
+      (lt_or_ge payload_limit (length_in l)))
+      (lt_or_ge (length l) (record_size payload_limit))

@@ -1,7 +1,7 @@
 // Records cut out of bytes: a length of two bytes, 210 header bytes, and that many payload bytes.
 ghost use Rattle.std.specs.Prelude.{◌≡◌, ◌+◌, ◌*◌};
 ghost use Rattle.record.specs.Records.{cut_of};
-ghost use Rattle.record.specs.Walks.{overOf};
+ghost use Rattle.record.specs.Walks.{over_of};
 
 use air::{AIR_BITS, LONGEST_PAYLOAD};
 
@@ -35,7 +35,7 @@ pub enum Ending {
 
 // Whether a walk is over, whatever follows.
 pub fn is_over(ending: Ending) -> bool
-    ensures { result ≡ overOf ending }
+    ensures { result ≡ over_of ending }
 {
     match ending {
         Ending::Waits => false,

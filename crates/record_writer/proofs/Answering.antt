@@ -11,37 +11,37 @@ use Rattle.base.specs.declared.Refusal.{Refusal}
 use Rattle.base.specs.declared.Written.{Written}
 use Rattle.base.specs.declared.Written.TheVariants.{Done, Refused}
 use Rattle.base.specs.Checks.{first, refusal, Exactly}
-use Rattle.base.proofs.Exactly.{exactly, done-apart}
-use Rattle.air.specs.Air.{airBits, payloadLimit}
+use Rattle.base.proofs.Exactly.{exactly, done_apart}
+use Rattle.air.specs.Air.{air_bits, payload_limit}
 use Rattle.header.specs.declared.Fields.{Fields}
 use Rattle.header.specs.Fields.{values_of}
-use Rattle.header.specs.Writing.{firstOver, outOfRange, longPayload, writeHeaderOf, airFor, HeaderWritten}
-use Rattle.header.proofs.Refusing.{past-13}
+use Rattle.header.specs.Writing.{first_over, out_of_range, long_payload, write_header_of, air_for, HeaderWritten}
+use Rattle.header.proofs.Refusing.{past_13}
 use Rattle.header.proofs.WrittenAir.{sent}
-use Rattle.record.specs.Records.{recordSize}
-use Rattle.record_writer.specs.Writing.{recordFrom, room_for, recordChecks, writeRecordOf, RecordWritten}
+use Rattle.record.specs.Records.{record_size}
+use Rattle.record_writer.specs.Writing.{record_from, room_for, record_checks, write_record_of, RecordWritten}
 
 -- the room asked for
-pub room-long : (n : ℕ) → payloadLimit < n → recordSize payloadLimit ≡ room_for n
-room-long n h = rw (lt-ltb payloadLimit n h)
+pub room_long : (n : ℕ) → payload_limit < n → record_size payload_limit ≡ room_for n
+room_long n h = rw (lt-ltb payload_limit n h)
 
-pub room_whole : (n : ℕ) → n ≤ payloadLimit → recordSize n ≡ room_for n
-room_whole n h = rw (le-ltb payloadLimit n h)
+pub room_whole : (n : ℕ) → n ≤ payload_limit → record_size n ≡ room_for n
+room_whole n h = rw (le-ltb payload_limit n h)
 
 module _ (edition : Edition) (f : Fields) (payload out : List ℕ) (asked : ℕ) (is : asked ≡ room_for (length payload)) where
-  pub gives-13 : length out < asked → RecordWritten edition f payload out (Refused (refusal 13 (length out))) out
-  unfolding writeRecordOf
-  gives-13 h = record { answered = rw (lt-ltb (length out) (room_for (length payload)) (rw is at h)); bytes = refl }
+  pub gives_13 : length out < asked → RecordWritten edition f payload out (Refused (refusal 13 (length out))) out
+  unfolding write_record_of
+  gives_13 h = record { answered = rw (lt-ltb (length out) (room_for (length payload)) (rw is at h)); bytes = refl }
 
   module _ (room : asked ≤ length out) where
-    past_room : first Done (outOfRange edition f ∷ longPayload payload ∷ []) ≡ writeRecordOf edition f payload (length out)
-    unfolding writeRecordOf
+    past_room : first Done (out_of_range edition f ∷ long_payload payload ∷ []) ≡ write_record_of edition f payload (length out)
+    unfolding write_record_of
     past_room = rw (le-ltb (length out) (room_for (length payload)) (rw is at room))
 
     -- the header was written into, or refused of, a room of its own, which is all that it asks for
-    module _ (own air : List ℕ) (size : length own ≡ airBits) where
-      same_answer : writeHeaderOf edition f payload (length own) ≡ writeRecordOf edition f payload (length out)
-      same_answer = sym (past-13 edition f payload own (omega arith) (firstOver edition (values_of f)) refl) ∙ past_room
+    module _ (own air : List ℕ) (size : length own ≡ air_bits) where
+      same_answer : write_header_of edition f payload (length own) ≡ write_record_of edition f payload (length out)
+      same_answer = sym (past_13 edition f payload own (omega arith) (first_over edition (values_of f)) refl) ∙ past_room
 
       -- by what the header's writer answered
       module _ (answer : Written) (so : HeaderWritten edition f payload own answer air) where
@@ -52,22 +52,22 @@ module _ (edition : Edition) (f : Fields) (payload out : List ℕ) (asked : ℕ)
           done : HeaderWritten edition f payload own Done air
           done = rw e at so
 
-          air-only : air ≡ airFor edition f payload
-          air-only = done.bytes ∙ rw (drop_of_length-le own {i = airBits} (omega arith)) (append-nil (airFor edition f payload))
+          air_only : air ≡ air_for edition f payload
+          air_only = done.bytes ∙ rw (drop_of_length-le own {i = air_bits} (omega arith)) (append-nil (air_for edition f payload))
 
-          pub writes : (after : List ℕ) → after ≡ recordFrom air payload ++ drop (recordSize (length payload)) out → RecordWritten edition f payload out Done after
-          writes after put = record { answered = done.answered ∙ same_answer; bytes = put ∙ ap (λ (l : List ℕ). recordFrom l payload ++ drop (recordSize (length payload)) out) air-only }
+          pub writes : (after : List ℕ) → after ≡ record_from air payload ++ drop (record_size (length payload)) out → RecordWritten edition f payload out Done after
+          writes after put = record { answered = done.answered ∙ same_answer; bytes = put ∙ ap (λ (l : List ℕ). record_from l payload ++ drop (record_size (length payload)) out) air_only }
 
 -- what is asked where the record is put: the header's writer took the payload, and so the room is that of the whole record
-pub payload-fits : (edition : Edition) (f : Fields) (payload own air : List ℕ) (answer : Written) → HeaderWritten edition f payload own answer air → answer ≡ Done
-    → length payload ≤ payloadLimit
-payload-fits edition f payload own air answer so e = (sent edition f payload own air (rw e at so)).writable.short
+pub payload_fits : (edition : Edition) (f : Fields) (payload own air : List ℕ) (answer : Written) → HeaderWritten edition f payload own answer air → answer ≡ Done
+    → length payload ≤ payload_limit
+payload_fits edition f payload own air answer so e = (sent edition f payload own air (rw e at so)).writable.short
 
-pub record-fits : (n room asked : ℕ) → asked ≡ room_for n → asked ≤ room → n ≤ payloadLimit → recordSize n ≤ room
-record-fits n room asked is enough fits = rw (is, ← room_whole n fits) at enough
+pub record_fits : (n room asked : ℕ) → asked ≡ room_for n → asked ≤ room → n ≤ payload_limit → record_size n ≤ room
+record_fits n room asked is enough fits = rw (is, ← room_whole n fits) at enough
 
 -- "given exactly when": 13 to 15
-pub record-exactly : (edition : Edition) (f : Fields) (payload : List ℕ) (room : ℕ) (why : Refusal)
-    → Exactly (writeRecordOf edition f payload room) (Refused why) (recordChecks edition f payload room)
-unfolding writeRecordOf
-record-exactly edition f payload room why = exactly Done (Refused why) (recordChecks edition f payload room) (done-apart why)
+pub record_exactly : (edition : Edition) (f : Fields) (payload : List ℕ) (room : ℕ) (why : Refusal)
+    → Exactly (write_record_of edition f payload room) (Refused why) (record_checks edition f payload room)
+unfolding write_record_of
+record_exactly edition f payload room why = exactly Done (Refused why) (record_checks edition f payload room) (done_apart why)

@@ -11,13 +11,13 @@ use Rattle.base.specs.declared.Edition.{Edition}
 use Rattle.base.specs.declared.Refusal.{Refusal}
 use Rattle.base.specs.declared.Written.TheVariants.{Done, Refused}
 use Rattle.base.specs.Checks.{check, first, refusal}
-use Rattle.air.specs.Air.{payloadLimit}
+use Rattle.air.specs.Air.{payload_limit}
 use Rattle.header.specs.declared.Fields.{Fields}
-use Rattle.header.specs.Fields.{fieldCount, values_of}
-use Rattle.header.specs.Writing.{firstOver}
-use Rattle.record.specs.Records.{recordSize}
-use Rattle.record_writer.specs.Writing.{writeRecordOf}
-use Rattle.record_writer.specs.LongPayload.{whole_of, wholeAnswer}
+use Rattle.header.specs.Fields.{field_count, values_of}
+use Rattle.header.specs.Writing.{first_over}
+use Rattle.record.specs.Records.{record_size}
+use Rattle.record_writer.specs.Writing.{write_record_of}
+use Rattle.record_writer.specs.LongPayload.{whole_of, whole_answer}
 
 -- by the refusal's number
 module _ (why : Refusal) (size : ℕ) where
@@ -29,14 +29,14 @@ module _ (why : Refusal) (size : ℕ) where
 
 rows : (short over : Bool) (room field part whole : ℕ)
     → first Done (check short (Refused (refusal 13 room)) ∷ check over (Refused (refusal 14 field)) ∷ check true (Refused (refusal 15 whole)) ∷ [])
-    ≡ wholeAnswer whole (first Done (check short (Refused (refusal 13 room)) ∷ check over (Refused (refusal 14 field)) ∷ check true (Refused (refusal 15 part)) ∷ []))
+    ≡ whole_answer whole (first Done (check short (Refused (refusal 13 room)) ∷ check over (Refused (refusal 14 field)) ∷ check true (Refused (refusal 15 part)) ∷ []))
 rows true over room field part whole = refl
 rows false true room field part whole = refl
 rows false false room field part whole = refl
 
-pub long-refused : (edition : Edition) (f : Fields) (part payload : List ℕ) (room : ℕ) → payloadLimit < length part → payloadLimit < length payload
-    → writeRecordOf edition f payload room ≡ wholeAnswer (length payload) (writeRecordOf edition f part room)
-unfolding writeRecordOf
-long-refused edition f part payload room some all =
-    rw (lt-ltb payloadLimit (length part) some, lt-ltb payloadLimit (length payload) all)
-    (rows (ltb room (recordSize payloadLimit)) (ltb (firstOver edition (values_of f)) fieldCount) room (firstOver edition (values_of f)) (length part) (length payload))
+pub long_refused : (edition : Edition) (f : Fields) (part payload : List ℕ) (room : ℕ) → payload_limit < length part → payload_limit < length payload
+    → write_record_of edition f payload room ≡ whole_answer (length payload) (write_record_of edition f part room)
+unfolding write_record_of
+long_refused edition f part payload room some all =
+    rw (lt-ltb payload_limit (length part) some, lt-ltb payload_limit (length payload) all)
+    (rows (ltb room (record_size payload_limit)) (ltb (first_over edition (values_of f)) field_count) room (first_over edition (values_of f)) (length part) (length payload))

@@ -8,26 +8,26 @@ use native.Mathlib.Omega.{arith}
 use lib.ListN.{length, drop, length-append}
 use Rattle.text.specs.Text.{laid, Put}
 use Rattle.text.proofs.Laid.{put_three}
-use Rattle.air.specs.Air.{airBits}
-use Rattle.record.specs.Records.{recordSize, length_of}
-use Rattle.record_writer.specs.Writing.{recordFrom}
+use Rattle.air.specs.Air.{air_bits}
+use Rattle.record.specs.Records.{record_size, length_of}
+use Rattle.record_writer.specs.Writing.{record_from}
 
-pub record-length : (air payload : List ℕ) → length air ≡ airBits → length (recordFrom air payload) ≡ recordSize (length payload)
-unfolding recordFrom
-record-length air payload long = omega (arith, long, length-append (length_of (length payload) ++ air) payload, length-append (length_of (length payload)) air)
+pub record_length : (air payload : List ℕ) → length air ≡ air_bits → length (record_from air payload) ≡ record_size (length payload)
+unfolding record_from
+record_length air payload long = omega (arith, long, length-append (length_of (length payload) ++ air) payload, length-append (length_of (length payload)) air)
 
 -- a text at the front
-laid-front : (l text : List ℕ) (n : ℕ) → length text ≡ n → laid l 0 text ≡ text ++ drop n l
+laid_front : (l text : List ℕ) (n : ℕ) → length text ≡ n → laid l 0 text ≡ text ++ drop n l
 unfolding laid
-laid-front l text n size = rw (size, zero-add)
+laid_front l text n size = rw (size, zero-add)
 
 whole : (out m n after air payload : List ℕ) (p q r : ℕ)
-    → Put out 0 (length payload / 256 ∷ length payload % 256 ∷ []) m p → Put m p air n q → Put n q payload after r → after ≡ laid out 0 (recordFrom air payload)
-unfolding recordFrom
+    → Put out 0 (length payload / 256 ∷ length payload % 256 ∷ []) m p → Put m p air n q → Put n q payload after r → after ≡ laid out 0 (record_from air payload)
+unfolding record_from
 whole out m n after air payload p q r size bits rest = (put_three size bits rest).bytes
 
-pub put_record : (out m n after air payload : List ℕ) (p q r : ℕ) → length air ≡ airBits
+pub put_record : (out m n after air payload : List ℕ) (p q r : ℕ) → length air ≡ air_bits
     → Put out 0 (length payload / 256 ∷ length payload % 256 ∷ []) m p → Put m p air n q → Put n q payload after r
-    → after ≡ recordFrom air payload ++ drop (recordSize (length payload)) out
+    → after ≡ record_from air payload ++ drop (record_size (length payload)) out
 put_record out m n after air payload p q r long size bits rest =
-    whole out m n after air payload p q r size bits rest ∙ laid-front out (recordFrom air payload) (recordSize (length payload)) (record-length air payload long)
+    whole out m n after air payload p q r size bits rest ∙ laid_front out (record_from air payload) (record_size (length payload)) (record_length air payload long)

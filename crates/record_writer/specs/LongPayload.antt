@@ -10,6 +10,6 @@ use Rattle.base.specs.Checks.{refusal}
 abbrev pub whole_of : Refusal → ℕ → Refusal
 whole_of why size = cond (eqb why.number 15) (refusal 15 size) why
 
-abbrev pub wholeAnswer : ℕ → Written → Written
-wholeAnswer size Done = Done
-wholeAnswer size (Refused why) = Refused (whole_of why size)
+abbrev pub whole_answer : ℕ → Written → Written
+whole_answer size Done = Done
+whole_answer size (Refused why) = Refused (whole_of why size)

@@ -1,9 +1,9 @@
 // The writer of a record: the payload's length, the 210 air bits of its header, and the payload, as records of a pass are read.
 ghost use Rattle.std.specs.Prelude.{◌≡◌, ◌++◌, ◌≤◌, length, drop};
-ghost use Rattle.air.specs.Air.{airBits, payloadLimit};
-ghost use Rattle.record.specs.Records.{recordSize};
+ghost use Rattle.air.specs.Air.{air_bits, payload_limit};
+ghost use Rattle.record.specs.Records.{record_size};
 ghost use Rattle.record_writer.specs.LongPayload.{whole_of};
-ghost use Rattle.record_writer.specs.Writing.{room_for, recordFrom, RecordWritten};
+ghost use Rattle.record_writer.specs.Writing.{room_for, record_from, RecordWritten};
 
 use air::{AIR_BITS, LONGEST_PAYLOAD};
 use base::{Edition, LONG_PAYLOAD, Refusal, SHORT_OUTPUT, Written};
@@ -25,10 +25,10 @@ fn room_for(n: usize) -> usize
 
 // Puts the record of some air bits and a payload at the start of the output.
 fn put_record(air: &[u8], payload: &[u8], out: &mut [u8])
-    requires air_len { length air.now ≡ airBits }
-    requires payload_len_bound { length payload.now ≤ payloadLimit }
-    requires payload_in_bounds { recordSize (length payload.now) ≤ length out.old }
-    ensures { out.new ≡ recordFrom air.now payload.now ++ drop (recordSize (length payload.now)) out.old }
+    requires air_len { length air.now ≡ air_bits }
+    requires payload_len_bound { length payload.now ≤ payload_limit }
+    requires payload_in_bounds { record_size (length payload.now) ≤ length out.old }
+    ensures { out.new ≡ record_from air.now payload.now ++ drop (record_size (length payload.now)) out.old }
 {
     let n = payload.len();
     let size = [(n / 256) as u8, (n % 256) as u8];

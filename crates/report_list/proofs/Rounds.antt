@@ -4,57 +4,57 @@
 use Rattle.base.specs.Plain.{◌≡◌, refl, sym, ◌∙◌, Bool, List, [], ℕ, ◌+◌, ◌-◌, ◌<◌, ◌≤◌, arith, length, take}
 use mir.Syntax.{w64}
 use mir.Val.{Fits}
-use Rattle.air.specs.Air.{payloadLimit}
+use Rattle.air.specs.Air.{payload_limit}
 use Rattle.header.specs.declared.Rules.{Rules}
-use Rattle.record.specs.Records.{recordSize}
-use Rattle.record.specs.Walks.{overOf}
+use Rattle.record.specs.Records.{record_size}
+use Rattle.record.specs.Walks.{over_of}
 use Rattle.streams.specs.declared.Filled.{Filled}
 use Rattle.streams.specs.declared.Next.{Next}
 use Rattle.streams.specs.Turns.{ReadOn, read_on, TurnsLeft}
-use Rattle.streams.proofs.Reading.{read-open}
+use Rattle.streams.proofs.Reading.{read_open}
 use Rattle.streams.proofs.Rounds.{Ready, goes_on}
 use Rattle.report_listing.specs.declared.Pass.{Pass}
 use Rattle.report_listing.specs.declared.Taken.{Taken}
 use Rattle.report_listing.specs.declared.last.Cuts.{Cuts}
 use Rattle.report_listing.specs.Promises.{Turns, CutsPut}
-use Rattle.report_listing.proofs.Keeping.{left-short}
-use Rattle.report_list.specs.Files.{mostFiles}
+use Rattle.report_listing.proofs.Keeping.{left_short}
+use Rattle.report_list.specs.Files.{most_files}
 
-pub takes-on : (buf₀ buf : List ℕ) (kept turns : ℕ) → Ready (recordSize payloadLimit) buf₀ [] buf [] kept turns → (read : List ℕ) → length read ≡ length buf
+pub takes_on : (buf₀ buf : List ℕ) (kept turns : ℕ) → Ready (record_size payload_limit) buf₀ [] buf [] kept turns → (read : List ℕ) → length read ≡ length buf
     → (filled : Filled) → ReadOn buf kept filled → (rules : Rules) (start : Pass) (buf' : List ℕ) (r : Taken) → Turns rules start read filled.end buf' r
-    → length buf' ≡ length read → (over : Bool) → over ≡ overOf r.ending → (next : Next) → next ≡ read_on filled.next over → (turns' : ℕ) → TurnsLeft turns next turns'
-    → Ready (recordSize payloadLimit) buf₀ [] buf' [] r.left turns'
-takes-on buf₀ buf kept turns so read same filled was rules start buf' r done input over is next on turns' turned =
-    goes_on (recordSize payloadLimit) buf₀ [] buf [] kept turns so read buf' [] r.left over next turns' same input refl
+    → length buf' ≡ length read → (over : Bool) → over ≡ over_of r.ending → (next : Next) → next ≡ read_on filled.next over → (turns' : ℕ) → TurnsLeft turns next turns'
+    → Ready (record_size payload_limit) buf₀ [] buf' [] r.left turns'
+takes_on buf₀ buf kept turns so read same filled was rules start buf' r done input over is next on turns' turned =
+    goes_on (record_size payload_limit) buf₀ [] buf [] kept turns so read buf' [] r.left over next turns' same input refl
     (omega (arith, done.inside, was.inside))
-    (λ e. left-short rules start (take filled.end read) r done.walked (sym is ∙ e)) (λ more. read-open filled.next over (sym on ∙ more)) turned
+    (λ e. left_short rules start (take filled.end read) r done.walked (sym is ∙ e)) (λ more. read_open filled.next over (sym on ∙ more)) turned
 
 -- what holds at each turn of `write_cuts`
 pub record Writing (files : ℕ) (out₀ out : List ℕ) (from : ℕ) : Type 0 where
   pub same : length out ≡ length out₀
   pub inside : from ≤ files
 
-pub starts-writing : (files : ℕ) (out : List ℕ) → Writing files out out 0
-starts-writing files out = record { same = refl; inside = omega arith }
+pub starts_writing : (files : ℕ) (out : List ℕ) → Writing files out out 0
+starts_writing files out = record { same = refl; inside = omega arith }
 
 module _ (files : ℕ) (out₀ out : List ℕ) (from : ℕ) (so : Writing files out₀ out from) (some : from < files) (cuts after : List ℕ) (r : Cuts) (put : CutsPut cuts from files out after r) where
   pub fewer : files - r.next < files - from
   fewer = omega (arith, put.moves some, put.inside)
 
-  pub writes-on : length after ≡ length out → Writing files out₀ after r.next
-  writes-on same = record { same = same ∙ so.same; inside = put.inside }
+  pub writes_on : length after ≡ length out → Writing files out₀ after r.next
+  writes_on same = record { same = same ∙ so.same; inside = put.inside }
 
 -- what holds at each file of `read_files`: the buffers keep their lengths, and each file has its byte
 pub record Hearing (files : ℕ) (buf₀ cuts₀ buf cuts room : List ℕ) : Type 0 where
-  pub few : files ≤ mostFiles
-  pub room_for : mostFiles ≤ length cuts₀
+  pub few : files ≤ most_files
+  pub room_for : most_files ≤ length cuts₀
   pub input : length buf ≡ length buf₀
   pub bytes : length cuts ≡ length cuts₀
   pub name : 4096 ≡ length room
 
 module _ (files : ℕ) (buf₀ cuts₀ buf cuts room : List ℕ) (so : Hearing files buf₀ cuts₀ buf cuts room) (file : ℕ) (some : file < files) where
-  pub has-byte : file < length cuts
-  has-byte = omega (arith, so.few, so.room_for, so.bytes)
+  pub has_byte : file < length cuts
+  has_byte = omega (arith, so.few, so.room_for, so.bytes)
 
   pub next_fits : Fits w64 (file + 1)
   next_fits = omega (arith, so.few)

@@ -2,5 +2,5 @@
 -- Assumes nothing.
 use Rattle.base.specs.Plain.{ℕ}
 
-abbrev pub mostFiles : ℕ
-mostFiles = 65536
+abbrev pub most_files : ℕ
+most_files = 65536

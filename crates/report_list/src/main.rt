@@ -2,12 +2,12 @@
 // text is that of `report_listing`. The words after its name are names of files; `-` is standard input, and so is no word at all.
 ghost use Rattle.std.specs.Prelude.{◌≡◌, ◌*◌, ◌<◌, ◌≤◌, length};
 ghost use Rattle.word.specs.Repairs.{syndromes};
-ghost use Rattle.air.specs.Air.{payloadLimit};
-ghost use Rattle.scaling.specs.Shown.{rowCount};
-ghost use Rattle.record.specs.Records.{recordSize};
-ghost use Rattle.page_listing.specs.Listing.{pageRules};
-ghost use Rattle.report_listing.specs.Rooms.{rowRoom};
-ghost use Rattle.report_list.specs.Files.{mostFiles};
+ghost use Rattle.air.specs.Air.{payload_limit};
+ghost use Rattle.scaling.specs.Shown.{row_count};
+ghost use Rattle.record.specs.Records.{record_size};
+ghost use Rattle.page_listing.specs.Listing.{page_rules};
+ghost use Rattle.report_listing.specs.Rooms.{row_room};
+ghost use Rattle.report_list.specs.Files.{most_files};
 
 use air::MOST_FLIPS;
 use base::Edition;
@@ -42,8 +42,8 @@ fn tell_failed(name: &[u8], call: &[u8]) {
 // The turns are counted down from a number that no run uses up: each but the last reads a byte.
 fn read_file(table: &[u16; TABLE_ROWS], rules: Rules, start: Pass, fd: i32, buf: &mut [u8]) -> Heard
     requires table_value { table.now ≡ syndromes }
-    requires rules_value { rules ≡ pageRules }
-    requires payload_limit_in_bounds { recordSize payloadLimit ≤ length buf.old }
+    requires rules_value { rules ≡ page_rules }
+    requires payload_limit_in_bounds { record_size payload_limit ≤ length buf.old }
 {
     let mut pass = start;
     let mut kept = 0;
@@ -78,8 +78,8 @@ fn hear(
     buf: &mut [u8],
 ) -> Heard
     requires table_value { table.now ≡ syndromes }
-    requires rules_value { rules ≡ pageRules }
-    requires payload_limit_in_bounds { recordSize payloadLimit ≤ length buf.old }
+    requires rules_value { rules ≡ page_rules }
+    requires payload_limit_in_bounds { record_size payload_limit ≤ length buf.old }
 {
     let heard = read_file(table, rules, start, fd, buf);
     if !heard.ended {
@@ -97,8 +97,8 @@ fn hear_file(
     buf: &mut [u8],
 ) -> Heard
     requires table_value { table.now ≡ syndromes }
-    requires rules_value { rules ≡ pageRules }
-    requires payload_limit_in_bounds { recordSize payloadLimit ≤ length buf.old }
+    requires rules_value { rules ≡ page_rules }
+    requires payload_limit_in_bounds { record_size payload_limit ≤ length buf.old }
 {
     let fd = os::open_read(name);
     if fd < 0 {
@@ -123,8 +123,8 @@ fn hear_input(
     buf: &mut [u8],
 ) -> Heard
     requires table_value { table.now ≡ syndromes }
-    requires rules_value { rules ≡ pageRules }
-    requires payload_limit_in_bounds { recordSize payloadLimit ≤ length buf.old }
+    requires rules_value { rules ≡ page_rules }
+    requires payload_limit_in_bounds { record_size payload_limit ≤ length buf.old }
 {
     if fresh {
         return hear(table, rules, start, b"standard input", STDIN_FILENO, buf);
@@ -162,8 +162,8 @@ fn hear_named(
     buf: &mut [u8],
 ) -> Heard
     requires table_value { table.now ≡ syndromes }
-    requires rules_value { rules ≡ pageRules }
-    requires payload_limit_in_bounds { recordSize payloadLimit ≤ length buf.old }
+    requires rules_value { rules ≡ page_rules }
+    requires payload_limit_in_bounds { record_size payload_limit ≤ length buf.old }
 {
     if is_input(name) {
         return hear_input(table, rules, start, fresh, buf);
@@ -173,7 +173,7 @@ fn hear_named(
 
 // The name of a file, by its number from 0: a word after the program's name, or `-` where there is none. It goes to the front of `room`.
 fn put_name(words: usize, file: usize, room: &mut [u8]) -> usize
-    requires file_lt_most_files { file < mostFiles }
+    requires file_lt_most_files { file < most_files }
     requires room_nonzero { 0 < length room.old }
     ensures { result ≤ length room.new }
 {
@@ -195,10 +195,10 @@ fn read_files(
     cuts: &mut [u8],
 ) -> Heard
     requires table_value { table.now ≡ syndromes }
-    requires rules_value { rules ≡ pageRules }
-    requires files_le_most_files { files ≤ mostFiles }
-    requires payload_limit_in_bounds { recordSize payloadLimit ≤ length buf.old }
-    requires most_files_in_bounds { mostFiles ≤ length cuts.old }
+    requires rules_value { rules ≡ page_rules }
+    requires files_le_most_files { files ≤ most_files }
+    requires payload_limit_in_bounds { record_size payload_limit ≤ length buf.old }
+    requires most_files_in_bounds { most_files ≤ length cuts.old }
 {
     let mut room = io::buffer();
     let mut pass = start;
@@ -226,7 +226,7 @@ fn read_files(
 // Writes the lines of the files that were cut, and answers whether that went well.
 fn write_cuts(out: &mut [u8], cuts: &[u8], files: usize) -> bool
     requires files_in_bounds { files ≤ length cuts.now }
-    requires row_room_in_bounds { rowCount * rowRoom ≤ length out.old }
+    requires row_room_in_bounds { row_count * row_room ≤ length out.old }
 {
     let mut from = 0;
     while from < files {
@@ -243,7 +243,7 @@ fn write_cuts(out: &mut [u8], cuts: &[u8], files: usize) -> bool
 // Writes all that follows the title.
 fn tell(pass: Pass, files: usize, cuts: &[u8], out: &mut [u8])
     requires files_in_bounds { files ≤ length cuts.now }
-    requires row_room_in_bounds { rowCount * rowRoom ≤ length out.old }
+    requires row_room_in_bounds { row_count * row_room ≤ length out.old }
 {
     let report = pass.report;
     let n = put_rows(out, report);
@@ -268,11 +268,11 @@ fn hear_all(
     cuts: &mut [u8],
 ) -> Heard
     requires table_value { table.now ≡ syndromes }
-    requires rules_value { rules ≡ pageRules }
-    requires files_le_most_files { files ≤ mostFiles }
-    requires payload_limit_in_bounds { recordSize payloadLimit ≤ length buf.old }
-    requires row_room_in_bounds { rowCount * rowRoom ≤ length out.old }
-    requires most_files_in_bounds { mostFiles ≤ length cuts.old }
+    requires rules_value { rules ≡ page_rules }
+    requires files_le_most_files { files ≤ most_files }
+    requires payload_limit_in_bounds { record_size payload_limit ≤ length buf.old }
+    requires row_room_in_bounds { row_count * row_room ≤ length out.old }
+    requires most_files_in_bounds { most_files ≤ length cuts.old }
 {
     let opened = report_listing::open(out);
     let title = opened.to;
@@ -298,11 +298,11 @@ fn list(
     cuts: &mut [u8],
 )
     requires table_value { table.now ≡ syndromes }
-    requires rules_value { rules ≡ pageRules }
-    requires files_le_most_files { files ≤ mostFiles }
-    requires payload_limit_in_bounds { recordSize payloadLimit ≤ length buf.old }
-    requires row_room_in_bounds { rowCount * rowRoom ≤ length out.old }
-    requires most_files_in_bounds { mostFiles ≤ length cuts.old }
+    requires rules_value { rules ≡ page_rules }
+    requires files_le_most_files { files ≤ most_files }
+    requires payload_limit_in_bounds { record_size payload_limit ≤ length buf.old }
+    requires row_room_in_bounds { row_count * row_room ≤ length out.old }
+    requires most_files_in_bounds { most_files ≤ length cuts.old }
 {
     let heard = hear_all(table, rules, words, files, buf, out, cuts);
     if heard.ended {
@@ -312,7 +312,7 @@ fn list(
 }
 
 fn run(words: usize, files: usize)
-    requires { files ≤ mostFiles }
+    requires { files ≤ most_files }
 {
     let table = word::table::whole();
     let rules = Rules {

@@ -10,44 +10,44 @@ use lib.ListN.{length, take}
 use lib.Seq.{drop-length}
 use Rattle.base.specs.declared.Edition.{Edition}
 use Rattle.text.specs.Text.{laid, Put}
-use Rattle.text.proofs.Laid.{put-none}
+use Rattle.text.proofs.Laid.{put_none}
 use Rattle.marks.specs.declared.Mark.{Mark}
 use Rattle.marks.specs.declared.State.{State}
 use Rattle.marks.specs.declared.Step.{Step}
 use Rattle.marks.specs.declared.Verdict.TheVariants.{Accepted}
-use Rattle.marks.specs.Marked.{windowBits}
-use Rattle.marks.specs.Pieces.{longestRecording, verdictOf, marksAt, step_of}
+use Rattle.marks.specs.Marked.{window_bits}
+use Rattle.marks.specs.Pieces.{longest_recording, verdict_of, marks_at, step_of}
 use Rattle.marks.specs.Reports.{Got, last as Got-Last, more as got-more}
-use Rattle.marks.proofs.Asked.{something-got}
+use Rattle.marks.proofs.Asked.{something_got}
 use Rattle.marks.proofs.Verdicts.{room}
-use Rattle.search.specs.Reports.{markRead}
+use Rattle.search.specs.Reports.{mark_read}
 use Rattle.lines.specs.declared.Tally.{Tally}
 use Rattle.lines.specs.Tallies.{total_of}
-use Rattle.lines.proofs.Counting.{counts-one}
-use Rattle.reporting.specs.Texts.{lines_of, tallyOver}
+use Rattle.lines.proofs.Counting.{counts_one}
+use Rattle.reporting.specs.Texts.{lines_of, tally_over}
 use Rattle.reporting.specs.Promises.{NextMark, Reported}
 use Rattle.reporting.specs.Searches.{Tells, last, more}
-use Rattle.reporting.proofs.Telling.{lines_none, tally-none, next-is}
+use Rattle.reporting.proofs.Telling.{lines_none, tally_none, next_is}
 
 -- a text is put over itself: the buffer is just as long as it
-put-itself : (text : List ℕ) → Put text 0 text text (length text)
+put_itself : (text : List ℕ) → Put text 0 text text (length text)
 unfolding laid
-put-itself text =
+put_itself text =
     record { bytes = rw (zero-add (length text), drop-length text) (sym (append-nil text)); place = sym (zero-add (length text)); fits = le_refl (length text); kept = refl }
 
-tally-single : (edition : Edition) (tally : Tally) (m : Mark) → total_of (tallyOver edition tally (m ∷ [])) ≡ total_of tally + 1
-unfolding tallyOver
-tally-single edition tally m = counts-one tally (markRead edition m).answer
+tally_single : (edition : Edition) (tally : Tally) (m : Mark) → total_of (tally_over edition tally (m ∷ [])) ≡ total_of tally + 1
+unfolding tally_over
+tally_single edition tally m = counts_one tally (mark_read edition m).answer
 
 module _ (edition : Edition) (s : State) (piece : List ℕ) where
   -- no mark is left from `at` on
-  none_told : (at : ℕ) (tally : Tally) → at ≤ length piece → total_of tally ≤ s.total + at → marksAt s piece at ≡ []
+  none_told : (at : ℕ) (tally : Tally) → at ≤ length piece → total_of tally ≤ s.total + at → marks_at s piece at ≡ []
       → Reported edition s piece at tally [] [] (record { tally = tally; to = 0; at = at; over = true })
   none_told at tally inside few none = record {
     given = [];
     split = refl;
-    text = rw (← (lines_none edition)) (put-none zero-le);
-    counted = tally-none edition tally;
+    text = rw (← (lines_none edition)) (put_none zero-le);
+    counted = tally_none edition tally;
     over = λ e. none;
     on = λ e. absurd (true≢false e);
     inside = inside;
@@ -57,18 +57,18 @@ module _ (edition : Edition) (s : State) (piece : List ℕ) where
   -- the line of the next mark is put
   one_told : (at : ℕ) (tally : Tally) → total_of tally ≤ s.total + at → (step : Step) → NextMark s piece at step → step.found ≡ true
       → Reported edition s piece at tally (lines_of edition (step.mark ∷ [])) (lines_of edition (step.mark ∷ []))
-      (record { tally = tallyOver edition tally (step.mark ∷ []); to = length (lines_of edition (step.mark ∷ [])); at = step.next; over = false })
+      (record { tally = tally_over edition tally (step.mark ∷ []); to = length (lines_of edition (step.mark ∷ [])); at = step.next; over = false })
   one_told at tally few step is found =
       let further = is.some found in
       record {
         given = step.mark ∷ [];
         split = further.2;
-        text = put-itself (lines_of edition (step.mark ∷ []));
+        text = put_itself (lines_of edition (step.mark ∷ []));
         counted = refl;
         over = λ e. absurd (false≢true e);
         on = λ e. further.0;
         inside = further.1;
-        few = omega (arith, tally-single edition tally step.mark, few, further.0);
+        few = omega (arith, tally_single edition tally step.mark, few, further.0);
       }
 
 -- a text and a tally of a piece from `at` on; no more headers are counted than bits were passed
@@ -78,17 +78,17 @@ pub record ToldFrom (edition : Edition) (s : State) (piece : List ℕ) (at : ℕ
   pub tells : Tells edition s piece at tally text after
   pub few : total_of after ≤ s.total + length piece
 
-module _ (edition : Edition) (s : State) (piece : List ℕ) (long : length s.bits ≡ windowBits) (whole : s.total + length piece ≤ longestRecording) where
+module _ (edition : Edition) (s : State) (piece : List ℕ) (long : length s.bits ≡ window_bits) (whole : s.total + length piece ≤ longest_recording) where
   next : (at : ℕ) → NextMark s piece at (step_of s piece at)
-  next at = next-is s piece at long whole (step_of s piece at) refl
+  next at = next_is s piece at long whole (step_of s piece at) refl
 
-  got-told : (at : ℕ) (ms : List Mark) → Got s piece at ms → (tally : Tally) → at ≤ length piece → total_of tally ≤ s.total + at → ToldFrom edition s piece at tally
-  got-told at ms (Got-Last none) tally inside few =
+  got_told : (at : ℕ) (ms : List Mark) → Got s piece at ms → (tally : Tally) → at ≤ length piece → total_of tally ≤ s.total + at → ToldFrom edition s piece at tally
+  got_told at ms (Got-Last none) tally inside few =
       record { text = []; after = tally; tells = last (none_told edition s piece at tally inside few ((next at).none none)) refl; few = omega (arith, inside, few) }
-  got-told at ms (got-more {ms = ns} found got) tally inside few =
+  got_told at ms (got-more {ms = ns} found got) tally inside few =
       let step : Step = step_of s piece at in
       let put = one_told edition s piece at tally few step (next at) found in
-      let rest = got-told step.next ns got (tallyOver edition tally (step.mark ∷ [])) put.inside put.few in
+      let rest = got_told step.next ns got (tally_over edition tally (step.mark ∷ [])) put.inside put.few in
       record {
         text = take (length (lines_of edition (step.mark ∷ []))) (lines_of edition (step.mark ∷ [])) ++ rest.text;
         after = rest.after;
@@ -97,8 +97,8 @@ module _ (edition : Edition) (s : State) (piece : List ℕ) (long : length s.bit
       }
 
 -- an accepted piece is told
-pub piece-told : (edition : Edition) (s : State) (piece : List ℕ) (tally : Tally) → length s.bits ≡ windowBits → verdictOf s.total piece ≡ Accepted → total_of tally ≤ s.total
+pub piece_told : (edition : Edition) (s : State) (piece : List ℕ) (tally : Tally) → length s.bits ≡ window_bits → verdict_of s.total piece ≡ Accepted → total_of tally ≤ s.total
     → ToldFrom edition s piece 0 tally
-piece-told edition s piece tally long accepted few =
-    let asked = something-got s piece long 0 in
-    got-told edition s piece long (room s.total piece (verdictOf s.total piece) refl accepted) 0 asked.marks asked.got tally zero-le (omega arith)
+piece_told edition s piece tally long accepted few =
+    let asked = something_got s piece long 0 in
+    got_told edition s piece long (room s.total piece (verdict_of s.total piece) refl accepted) 0 asked.marks asked.got tally zero-le (omega arith)

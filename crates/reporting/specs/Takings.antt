@@ -2,32 +2,32 @@
 -- Assumes nothing.
 use Rattle.std.specs.Prelude.{cond, List, ℕ, ◌+◌, ◌-◌, ltb, length, take}
 use Rattle.base.specs.Checks.{refusal}
-use Rattle.air.specs.Air.{firstNoBit}
+use Rattle.air.specs.Air.{first_no_bit}
 use Rattle.marks.specs.declared.State.{State}
-use Rattle.marks.specs.Pieces.{longestRecording, movedOn}
+use Rattle.marks.specs.Pieces.{longest_recording, moved_on}
 use Rattle.lines.specs.declared.Stop.{Stop}
 use Rattle.lines.specs.declared.Stop.TheVariants.{Nowhere, Stopped}
 use Rattle.reporting.specs.declared.Taking.{Taking}
 
 -- how many of n bits fit a recording of so many
-abbrev pub fittingOf : ℕ → ℕ → ℕ
-fittingOf total n = cond (ltb (longestRecording - total) n) (longestRecording - total) n
+abbrev pub fitting_of : ℕ → ℕ → ℕ
+fitting_of total n = cond (ltb (longest_recording - total) n) (longest_recording - total) n
 
 -- and how many of them are taken: those before the first element above 1
-abbrev pub frontOf : ℕ → List ℕ → ℕ
-frontOf total bits = firstNoBit (take (fittingOf total (length bits)) bits)
+abbrev pub front_of : ℕ → List ℕ → ℕ
+front_of total bits = first_no_bit (take (fitting_of total (length bits)) bits)
 
 -- "stopped 19 INDEX", the first byte not taken; "stopped 37 4294967295", whatever that byte is
-abbrev pub stopAfter : ℕ → ℕ → ℕ → ℕ → Stop
-stopAfter total n fits bits = cond (ltb n fits) (Stopped (refusal 19 (total + n))) (cond (ltb fits bits) (Stopped (refusal 37 longestRecording)) Nowhere)
+abbrev pub stop_after : ℕ → ℕ → ℕ → ℕ → Stop
+stop_after total n fits bits = cond (ltb n fits) (Stopped (refusal 19 (total + n))) (cond (ltb fits bits) (Stopped (refusal 37 longest_recording)) Nowhere)
 
 -- why no more of some bits is taken, after so many
-abbrev pub whyNoMore : ℕ → List ℕ → Stop
-whyNoMore total bits = stopAfter total (frontOf total bits) (fittingOf total (length bits)) (length bits)
+abbrev pub why_no_more : ℕ → List ℕ → Stop
+why_no_more total bits = stop_after total (front_of total bits) (fitting_of total (length bits)) (length bits)
 
 -- and what is taken of them
-abbrev pub takenBits : ℕ → List ℕ → List ℕ
-takenBits total bits = take (frontOf total bits) bits
+abbrev pub taken_bits : ℕ → List ℕ → List ℕ
+taken_bits total bits = take (front_of total bits) bits
 
-unfoldable pub takingOf : State → List ℕ → Taking
-takingOf s bits = record { n = frontOf s.total bits; state = movedOn s (takenBits s.total bits); stop = whyNoMore s.total bits }
+unfoldable pub taking_of : State → List ℕ → Taking
+taking_of s bits = record { n = front_of s.total bits; state = moved_on s (taken_bits s.total bits); stop = why_no_more s.total bits }

@@ -3,30 +3,30 @@
 use Rattle.std.specs.Prelude.{List, [], ◌∷◌, ◌++◌, ℕ, length}
 use Rattle.base.specs.declared.Edition.{Edition}
 use Rattle.marks.specs.declared.Mark.{Mark}
-use Rattle.marks.specs.Marked.{marksOf}
-use Rattle.search.specs.Reports.{markRead}
+use Rattle.marks.specs.Marked.{marks_of}
+use Rattle.search.specs.Reports.{mark_read}
 use Rattle.lines.specs.declared.Tally.{Tally}
 use Rattle.lines.specs.declared.Stop.{Stop}
-use Rattle.lines.specs.Tallies.{nothingHeard, tallyAfter}
-use Rattle.lines.specs.Recordings.{heading, reportLine, endingOf}
+use Rattle.lines.specs.Tallies.{nothing_heard, tally_after}
+use Rattle.lines.specs.Recordings.{heading, report_line, ending_of}
 
 -- the line of a mark, and of marks one after the other
-abbrev pub markLine : Edition → Mark → List ℕ
-markLine edition m = reportLine edition m.place (markRead edition m)
+abbrev pub mark_line : Edition → Mark → List ℕ
+mark_line edition m = report_line edition m.place (mark_read edition m)
 
 unfoldable pub lines_of : Edition → List Mark → List ℕ
 lines_of edition [] = []
-lines_of edition (m ∷ ms) = markLine edition m ++ lines_of edition ms
+lines_of edition (m ∷ ms) = mark_line edition m ++ lines_of edition ms
 
 -- a tally after the answer to a mark, and after marks one after the other
-abbrev pub tallyMark : Edition → Tally → Mark → Tally
-tallyMark edition tally m = tallyAfter tally (markRead edition m).answer
+abbrev pub tally_mark : Edition → Tally → Mark → Tally
+tally_mark edition tally m = tally_after tally (mark_read edition m).answer
 
-unfoldable pub tallyOver : Edition → Tally → List Mark → Tally
-tallyOver edition tally [] = tally
-tallyOver edition tally (m ∷ ms) = tallyOver edition (tallyMark edition tally m) ms
+unfoldable pub tally_over : Edition → Tally → List Mark → Tally
+tally_over edition tally [] = tally
+tally_over edition tally (m ∷ ms) = tally_over edition (tally_mark edition tally m) ms
 
 -- what a search writes of a recording, and why it stopped
-unfoldable pub searchOf : Edition → List ℕ → Stop → List ℕ
-searchOf edition recording stop =
-    heading ++ lines_of edition (marksOf recording) ++ endingOf (length recording) (tallyOver edition nothingHeard (marksOf recording)) stop
+unfoldable pub search_of : Edition → List ℕ → Stop → List ℕ
+search_of edition recording stop =
+    heading ++ lines_of edition (marks_of recording) ++ ending_of (length recording) (tally_over edition nothing_heard (marks_of recording)) stop

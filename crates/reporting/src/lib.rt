@@ -2,12 +2,12 @@
 // lent buffer has room for; what closes it.
 ghost use Rattle.std.specs.Prelude.{◌≡◌, ◌+◌, ◌*◌, ◌<◌, ◌≤◌, length};
 ghost use Rattle.word.specs.Repairs.{syndromes};
-ghost use Rattle.marks.specs.Pieces.{longestRecording};
-ghost use Rattle.lines.specs.Tallies.{mostCounted, total_of};
-ghost use Rattle.lines.specs.Rooms.{lineRoom};
-ghost use Rattle.lines.specs.Recordings.{endingOf};
+ghost use Rattle.marks.specs.Pieces.{longest_recording};
+ghost use Rattle.lines.specs.Tallies.{most_counted, total_of};
+ghost use Rattle.lines.specs.Rooms.{line_room};
+ghost use Rattle.lines.specs.Recordings.{ending_of};
 ghost use Rattle.text.specs.Text.{Put};
-ghost use Rattle.reporting.specs.Takings.{fittingOf, stopAfter, takingOf};
+ghost use Rattle.reporting.specs.Takings.{fitting_of, stop_after, taking_of};
 ghost use Rattle.reporting.specs.Promises.{Opening, NextMark, LinePut, Reported};
 
 use base::{Edition, LONG_RECORDING, NO_BIT_IN_PIECE, Refusal};
@@ -28,7 +28,7 @@ pub struct Opened {
 
 // Puts the heading.
 pub fn open(out: &mut [u8]) -> Opened
-    requires { lineRoom ≤ length out.old }
+    requires { line_room ≤ length out.old }
     ensures { Opening out.old out.new result }
 {
     let to = search_lines::put_heading(out);
@@ -52,7 +52,7 @@ pub struct Taking {
 
 // How many bits a recording takes of n.
 fn fitting(total: u32, n: usize) -> usize
-    ensures { result ≡ fittingOf total n }
+    ensures { result ≡ fitting_of total n }
 {
     let room = (LONGEST_RECORDING - total) as usize;
     if room < n {
@@ -63,8 +63,8 @@ fn fitting(total: u32, n: usize) -> usize
 
 // Why no more than n of so many bits are taken, of which `fits` fit the recording.
 fn stop_after(total: u32, n: usize, fits: usize, bits: usize) -> Stop
-    requires { total + n ≤ longestRecording }
-    ensures { result ≡ stopAfter total n fits bits }
+    requires { total + n ≤ longest_recording }
+    ensures { result ≡ stop_after total n fits bits }
 {
     if n < fits {
         return Stop::Stopped(Refusal {
@@ -83,7 +83,7 @@ fn stop_after(total: u32, n: usize, fits: usize, bits: usize) -> Stop
 
 // Takes the bits before the first that cannot be taken.
 pub fn take_front(state: State, bits: &[u8]) -> Taking
-    ensures { result ≡ takingOf state bits.now }
+    ensures { result ≡ taking_of state bits.now }
 {
     let total = state.total;
     let fits = fitting(total, bits.len());
@@ -115,7 +115,7 @@ pub struct Told {
 
 // The next mark of a piece.
 fn next_mark(state: State, piece: &[u8], at: usize) -> Step
-    requires { state.total + length piece.now ≤ longestRecording }
+    requires { state.total + length piece.now ≤ longest_recording }
     ensures { NextMark state piece.now at result }
 {
     marks::find(state, piece, at)
@@ -131,8 +131,8 @@ fn put_mark(
     to: usize,
 ) -> Line
     requires table_value { table.now ≡ syndromes }
-    requires tally_bound { total_of tally < mostCounted }
-    requires line_room_in_bounds { to + lineRoom ≤ length out.old }
+    requires tally_bound { total_of tally < most_counted }
+    requires line_room_in_bounds { to + line_room ≤ length out.old }
     ensures { LinePut edition mark tally out.old to out.new result }
 {
     let read = search::read_mark_in(table, edition, mark);
@@ -155,10 +155,10 @@ pub fn put_marks(
     out: &mut [u8],
 ) -> Told
     requires table_value { table.now ≡ syndromes }
-    requires piece_bound { state.total + length piece.now ≤ longestRecording }
+    requires piece_bound { state.total + length piece.now ≤ longest_recording }
     requires start_bound { total_of start ≤ state.total + from }
     requires from_in_bounds { from ≤ length piece.now }
-    requires line_room_in_bounds { lineRoom ≤ length out.old }
+    requires line_room_in_bounds { line_room ≤ length out.old }
     ensures { Reported edition state piece.now from start out.old out.new result }
 {
     let mut tally = start;
@@ -190,8 +190,8 @@ pub fn put_marks(
 
 // Puts the last line, after why the search stopped.
 pub fn close(total: u32, tally: Tally, stop: Stop, out: &mut [u8]) -> usize
-    requires { 2 * lineRoom ≤ length out.old }
-    ensures { Put out.old 0 (endingOf total tally stop) out.new result }
+    requires { 2 * line_room ≤ length out.old }
+    ensures { Put out.old 0 (ending_of total tally stop) out.new result }
 {
     search_lines::put_ending(out, 0, total as u64, tally, stop)
 }

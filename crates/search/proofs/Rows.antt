@@ -16,62 +16,62 @@ use Rattle.base.specs.declared.Edition.{Edition}
 use Rattle.base.specs.declared.Refusal.{Refusal}
 use Rattle.base.specs.Checks.{Check, Given, here, later}
 use Rattle.base.specs.Lists.{AreBits}
-use Rattle.base.proofs.Tests.{lt-or-ge, differs-not}
+use Rattle.base.proofs.Tests.{lt_or_ge, differs_not}
 use Rattle.base.proofs.First.{NoneApplies}
-use Rattle.air.specs.Air.{airBits, firstNoBit}
-use Rattle.air.proofs.Bits.{no-bit-none}
+use Rattle.air.specs.Air.{air_bits, first_no_bit}
+use Rattle.air.proofs.Bits.{no_bit_none}
 use Rattle.header.specs.declared.Answer.{Answer}
 use Rattle.header.specs.declared.Answer.TheVariants.{Accepted, Refused}
-use Rattle.header_reader.specs.Reading.{Signal, signal, limitAbove42, not210Long, noBit, signalChecks, readHeaderOf}
-use Rattle.header.specs.Rules.{usualRules}
+use Rattle.header_reader.specs.Reading.{Signal, signal, limit_above42, not210_long, no_bit, signal_checks, read_header_of}
+use Rattle.header.specs.Rules.{usual_rules}
 use Rattle.header_reader.proofs.Beside.{read_answer}
-use Rattle.header_reader.proofs.Given.{read-exactly}
+use Rattle.header_reader.proofs.Given.{read_exactly}
 use Rattle.marks.specs.declared.Mark.{Mark}
-use Rattle.marks.specs.Marked.{markerBits, windowBits, marksOf}
+use Rattle.marks.specs.Marked.{marker_bits, window_bits, marks_of}
 use Rattle.marks.specs.Reports.{MarkOf}
-use Rattle.marks.proofs.Marks.{marked-long, window-of}
+use Rattle.marks.proofs.Marks.{marked_long, window_of}
 use Rattle.marks.proofs.Exactly.{only}
-use Rattle.search.specs.Reports.{windowRead, markRead}
+use Rattle.search.specs.Reports.{window_read, mark_read}
 
-bits-take : (n : ℕ) (l : List ℕ) → n ≤ length l → AreBits l → AreBits (take n l)
-bits-take n l inside bits k =
+bits_take : (n : ℕ) (l : List ℕ) → n ≤ length l → AreBits l → AreBits (take n l)
+bits_take n l inside bits k =
     ⊎_elim
     (λ (h : k < n). rw (get_or-take n l k 0 h) (bits k))
     (λ (h : n ≤ k). rw (get_or-eq_default (take n l) 0 {n = k} (rw (length-take-le n l inside) h)) (lit< tt))
-    (lt-or-ge k n)
+    (lt_or_ge k n)
 
-bits-drop : (n : ℕ) (l : List ℕ) → AreBits l → AreBits (drop n l)
-bits-drop n l bits k = rw (get_or-drop n l k 0) (bits (n + k))
+bits_drop : (n : ℕ) (l : List ℕ) → AreBits l → AreBits (drop n l)
+bits_drop n l bits k = rw (get_or-drop n l k 0) (bits (n + k))
 
 -- what the header is read from
-abbrev pub signalOf : Edition → Mark → Signal
-signalOf edition m = signal (usualRules edition) (take airBits (drop markerBits m.window))
+abbrev pub signal_of : Edition → Mark → Signal
+signal_of edition m = signal (usual_rules edition) (take air_bits (drop marker_bits m.window))
 
-module _ (window : List ℕ) (long : length window ≡ windowBits) (bits : AreBits window) where
-  room : airBits ≤ length (drop markerBits window)
+module _ (window : List ℕ) (long : length window ≡ window_bits) (bits : AreBits window) where
+  room : air_bits ≤ length (drop marker_bits window)
   room = simp length-drop (omega arith)
 
-  header-long : length (take airBits (drop markerBits window)) ≡ airBits
-  header-long = length-take-le airBits (drop markerBits window) room
+  header_long : length (take air_bits (drop marker_bits window)) ≡ air_bits
+  header_long = length-take-le air_bits (drop marker_bits window) room
 
-  header-bits : AreBits (take airBits (drop markerBits window))
-  header-bits = bits-take airBits (drop markerBits window) room (bits-drop markerBits window bits)
+  header_bits_lem : AreBits (take air_bits (drop marker_bits window))
+  header_bits_lem = bits_take air_bits (drop marker_bits window) room (bits_drop marker_bits window bits)
 
-  rows-passed : (edition : Edition) → NoneApplies (limitAbove42 (signal (usualRules edition) (take airBits (drop markerBits window)))
-      ∷ not210Long (signal (usualRules edition) (take airBits (drop markerBits window))) ∷ noBit (signal (usualRules edition) (take airBits (drop markerBits window))) ∷ [])
-  rows-passed edition = (refl, (differs-not (length (take airBits (drop markerBits window))) airBits header-long, (le-ltb (firstNoBit (take airBits (drop markerBits window))) airBits reach, tt)))
+  rows_passed : (edition : Edition) → NoneApplies (limit_above42 (signal (usual_rules edition) (take air_bits (drop marker_bits window)))
+      ∷ not210_long (signal (usual_rules edition) (take air_bits (drop marker_bits window))) ∷ no_bit (signal (usual_rules edition) (take air_bits (drop marker_bits window))) ∷ [])
+  rows_passed edition = (refl, (differs_not (length (take air_bits (drop marker_bits window))) air_bits header_long, (le-ltb (first_no_bit (take air_bits (drop marker_bits window))) air_bits reach, tt)))
     where
-      reach : airBits ≤ firstNoBit (take airBits (drop markerBits window))
-      reach = omega (arith, no-bit-none (take airBits (drop markerBits window)) header-bits, header-long)
+      reach : air_bits ≤ first_no_bit (take air_bits (drop marker_bits window))
+      reach = omega (arith, no_bit_none (take air_bits (drop marker_bits window)) header_bits_lem, header_long)
 
-pub never-20-1-2 : (edition : Edition) (recording : List ℕ) → AreBits recording → (m : Mark) → Memᴰ m (marksOf recording)
-    → NoneApplies (limitAbove42 (signalOf edition m) ∷ not210Long (signalOf edition m) ∷ noBit (signalOf edition m) ∷ [])
-never-20-1-2 edition recording bits m given =
+pub never_20_1_2 : (edition : Edition) (recording : List ℕ) → AreBits recording → (m : Mark) → Memᴰ m (marks_of recording)
+    → NoneApplies (limit_above42 (signal_of edition m) ∷ not210_long (signal_of edition m) ∷ no_bit (signal_of edition m) ∷ [])
+never_20_1_2 edition recording bits m given =
     let mark : MarkOf 0 recording m = only 0 recording m given in
     let l : List ℕ = drop mark.at recording in
-    let long : windowBits ≤ length l = marked-long l mark.is in
-    let is : m.window ≡ take windowBits l = ap (λ (x : Mark). x.window) mark.gives ∙ window-of (0 + mark.at) l in
-    rw is (rows-passed (take windowBits l) (length-take-le windowBits l long) (bits-take windowBits l long (bits-drop mark.at recording bits)) edition)
+    let long : window_bits ≤ length l = marked_long l mark.is in
+    let is : m.window ≡ take window_bits l = ap (λ (x : Mark). x.window) mark.gives ∙ window_of (0 + mark.at) l in
+    rw is (rows_passed (take window_bits l) (length-take-le window_bits l long) (bits_take window_bits l long (bits_drop mark.at recording bits)) edition)
 
 -- THE NUMBERS of the refusals
 -- what holds of the answer of each row that may apply holds of the answer that is given
@@ -115,28 +115,28 @@ Numbered numbers is (Accepted h flips) = Unit {0}
 Numbered numbers is (Refused why) = among numbers why.number ≡ is
 
 module _ (edition : Edition) (m : Mark) where
-  answer-is : (markRead edition m).answer ≡ readHeaderOf (signalOf edition m)
-  unfolding windowRead
-  answer-is = read_answer (signalOf edition m) (markRead edition m) refl
+  answer_is : (mark_read edition m).answer ≡ read_header_of (signal_of edition m)
+  unfolding window_read
+  answer_is = read_answer (signal_of edition m) (mark_read edition m) refl
 
-  by_rows : (numbers : List ℕ) (is : Bool) → Each (Numbered numbers is) (signalChecks (signalOf edition m)) → (why : Refusal) → (markRead edition m).answer ≡ Refused why
+  by_rows : (numbers : List ℕ) (is : Bool) → Each (Numbered numbers is) (signal_checks (signal_of edition m)) → (why : Refusal) → (mark_read edition m).answer ≡ Refused why
       → among numbers why.number ≡ is
   by_rows numbers is each why e =
-      given_holds (Numbered numbers is) (Refused why) (signalChecks (signalOf edition m)) each ((read-exactly (signalOf edition m) why).0 (sym answer-is ∙ e))
+      given_holds (Numbered numbers is) (Refused why) (signal_checks (signal_of edition m)) each ((read_exactly (signal_of edition m) why).0 (sym answer_is ∙ e))
 
   -- 23 and 24 do not apply, and of 7 and 8 there are no rows: for every mark at all
-  pub never-23-24-7-8 : (why : Refusal) → (markRead edition m).answer ≡ Refused why → Memᴰ why.number (23 ∷ 24 ∷ 7 ∷ 8 ∷ []) → ⊥
-  never-23-24-7-8 why e =
+  pub never_23_24_7_8 : (why : Refusal) → (mark_read edition m).answer ≡ Refused why → Memᴰ why.number (23 ∷ 24 ∷ 7 ∷ 8 ∷ []) → ⊥
+  never_23_24_7_8 why e =
       no_member (23 ∷ 24 ∷ 7 ∷ 8 ∷ []) why.number
       (by_rows (23 ∷ 24 ∷ 7 ∷ 8 ∷ []) false
       (λ t. refl, (λ t. refl, (λ t. refl, (λ t. absurd (false≢true t), (λ t. refl, (λ t. refl, (λ t. refl, (λ t. refl, (λ t. absurd (false≢true t), (λ t. refl, tt))))))))))
       why e)
 
 -- so the header of a mark that a recording has is refused with 3, 21, 4, 5 and 6 only
-pub refused-3-21-4-5-6 : (edition : Edition) (recording : List ℕ) → AreBits recording → (m : Mark) → Memᴰ m (marksOf recording) → (why : Refusal)
-    → (markRead edition m).answer ≡ Refused why → Memᴰ why.number (3 ∷ 21 ∷ 4 ∷ 5 ∷ 6 ∷ [])
-refused-3-21-4-5-6 edition recording bits m given why e =
-    let none = never-20-1-2 edition recording bits m given in
+pub refused_3_21_4_5_6 : (edition : Edition) (recording : List ℕ) → AreBits recording → (m : Mark) → Memᴰ m (marks_of recording) → (why : Refusal)
+    → (mark_read edition m).answer ≡ Refused why → Memᴰ why.number (3 ∷ 21 ∷ 4 ∷ 5 ∷ 6 ∷ [])
+refused_3_21_4_5_6 edition recording bits m given why e =
+    let none = never_20_1_2 edition recording bits m given in
     member (3 ∷ 21 ∷ 4 ∷ 5 ∷ 6 ∷ []) why.number
     (by_rows edition m (3 ∷ 21 ∷ 4 ∷ 5 ∷ 6 ∷ []) true (
       λ t. absurd (false≢true (sym none.0 ∙ t)),

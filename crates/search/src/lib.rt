@@ -2,7 +2,7 @@
 // aren't read here, so checks 7 and 8 aren't applied."
 ghost use Rattle.std.specs.Prelude.{◌≡◌};
 ghost use Rattle.word.specs.Repairs.{syndromes};
-ghost use Rattle.search.specs.Reports.{windowRead, markRead};
+ghost use Rattle.search.specs.Reports.{window_read, mark_read};
 
 use base::Edition;
 use header::Read;
@@ -12,7 +12,7 @@ use word::table::TABLE_ROWS;
 // The header answer of a mark's 242 bits.
 fn read_window(table: &[u16; TABLE_ROWS], edition: Edition, window: [u8; WINDOW_BITS]) -> Read
     requires { table.now ≡ syndromes }
-    ensures { result ≡ windowRead edition window }
+    ensures { result ≡ window_read edition window }
 {
     let rules = header::usual(edition);
     header_reader::read_header_in(table, rules, &window[MARKER_BITS..])
@@ -21,7 +21,7 @@ fn read_window(table: &[u16; TABLE_ROWS], edition: Edition, window: [u8; WINDOW_
 // The header answer of a mark, by a lent copy of the syndrome table: what a caller with many marks copies once.
 pub fn read_mark_in(table: &[u16; TABLE_ROWS], edition: Edition, mark: Mark) -> Read
     requires { table.now ≡ syndromes }
-    ensures { result ≡ markRead edition mark }
+    ensures { result ≡ mark_read edition mark }
 {
     let window = mark.window;
     read_window(table, edition, window)
@@ -29,7 +29,7 @@ pub fn read_mark_in(table: &[u16; TABLE_ROWS], edition: Edition, mark: Mark) -> 
 
 // The header answer of a mark.
 pub fn read_mark(edition: Edition, mark: Mark) -> Read
-    ensures { result ≡ markRead edition mark }
+    ensures { result ≡ mark_read edition mark }
 {
     let table = word::table::whole();
     read_mark_in(&table, edition, mark)

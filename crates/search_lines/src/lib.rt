@@ -1,8 +1,8 @@
 // The lines of a search through a recording, put into a lent slice at a place. Each function answers the place after what it put.
 ghost use Rattle.std.specs.Prelude.{◌+◌, ◌*◌, ◌≤◌, length};
 ghost use Rattle.text.specs.Text.{Put};
-ghost use Rattle.lines.specs.Recordings.{heading, reportLine, stopOf, last_of, endingOf};
-ghost use Rattle.lines.specs.Rooms.{lineRoom};
+ghost use Rattle.lines.specs.Recordings.{heading, report_line, stop_of, last_of, ending_of};
+ghost use Rattle.lines.specs.Rooms.{line_room};
 
 use base::Edition;
 use header::{Answer, Read};
@@ -10,18 +10,18 @@ use lines::{Stop, Tally, put_accepted, put_refused};
 
 // Puts the first line.
 pub fn put_heading(out: &mut [u8]) -> usize
-    requires { lineRoom ≤ length out.old }
+    requires { line_room ≤ length out.old }
     ensures put { Put out.old 0 heading out.new result }
-    ensures upper_bound { result ≤ lineRoom }
+    ensures upper_bound { result ≤ line_room }
 {
     text::put_text(out, 0, b"recording\n")
 }
 
 // Puts the line of a header that follows a marker at this place.
 pub fn put_report(out: &mut [u8], at: usize, edition: Edition, place: u64, read: Read) -> usize
-    requires { at + lineRoom ≤ length out.old }
-    ensures put { Put out.old at (reportLine edition place read) out.new result }
-    ensures upper_bound { result ≤ at + lineRoom }
+    requires { at + line_room ≤ length out.old }
+    ensures put { Put out.old at (report_line edition place read) out.new result }
+    ensures upper_bound { result ≤ at + line_room }
 {
     let answer = read.answer;
     let patterns = read.patterns;
@@ -44,9 +44,9 @@ pub fn put_report(out: &mut [u8], at: usize, edition: Edition, place: u64, read:
 
 // Puts why a search stopped, where it did.
 fn put_stop(out: &mut [u8], at: usize, stop: Stop) -> usize
-    requires { at + lineRoom ≤ length out.old }
-    ensures put { Put out.old at (stopOf stop) out.new result }
-    ensures upper_bound { result ≤ at + lineRoom }
+    requires { at + line_room ≤ length out.old }
+    ensures put { Put out.old at (stop_of stop) out.new result }
+    ensures upper_bound { result ≤ at + line_room }
 {
     match stop {
         Stop::Nowhere => at,
@@ -63,7 +63,7 @@ fn put_stop(out: &mut [u8], at: usize, stop: Stop) -> usize
 }
 
 fn put_last(out: &mut [u8], at: usize, bits: u64, tally: Tally) -> usize
-    requires { at + lineRoom ≤ length out.old }
+    requires { at + line_room ≤ length out.old }
     ensures { Put out.old at (last_of bits tally) out.new result }
 {
     let heard = lines::total(tally);
@@ -78,8 +78,8 @@ fn put_last(out: &mut [u8], at: usize, bits: u64, tally: Tally) -> usize
 
 // Puts the last line, after why the search stopped.
 pub fn put_ending(out: &mut [u8], at: usize, bits: u64, tally: Tally, stop: Stop) -> usize
-    requires { at + 2 * lineRoom ≤ length out.old }
-    ensures { Put out.old at (endingOf bits tally stop) out.new result }
+    requires { at + 2 * line_room ≤ length out.old }
+    ensures { Put out.old at (ending_of bits tally stop) out.new result }
 {
     let a = put_stop(out, at, stop);
     put_last(out, a, bits, tally)

@@ -11,99 +11,99 @@ use borrow.Author.Tests.{eqb-true, eqb-false}
 use Rattle.base.specs.declared.Edition.{Edition}
 use Rattle.header.specs.declared.Answer.{Answer}
 use Rattle.header.specs.declared.Answer.TheVariants.{Accepted, Refused}
-use Rattle.source.specs.Records.{addOf, replayFrom}
-use Rattle.source.specs.Lanes.{Role, recordOf, ofLane, ownIn}
-use Rattle.source.specs.Counts.{refusalCounts, slot_of}
+use Rattle.source.specs.Records.{add_of, replay_from}
+use Rattle.source.specs.Lanes.{Role, record_of, of_lane, own_in}
+use Rattle.source.specs.Counts.{refusal_counts, slot_of}
 use Rattle.sheet.specs.declared.Sheet.{Sheet}
-use Rattle.sheet.specs.Sheets.{recordsOf, laneAt, refusalsAt, acceptOf, refuseOf, countedOf, acceptedOf, refusedOf, heardOf, fullSheet}
-use Rattle.sheet.specs.Histories.{refusedIn}
-use Rattle.source.proofs.Growing.{Within, within_more, within-heard}
-use Rattle.source.proofs.Lanes.{heard-lane, heard-more}
-use Rattle.source.proofs.Counts.{HasSlot, counts-one, slot-one}
+use Rattle.sheet.specs.Sheets.{records_of, lane_at, refusals_at, accept_of, refuse_of, counted_of, accepted_of, refused_of, heard_of, full_sheet}
+use Rattle.sheet.specs.Histories.{refused_in}
+use Rattle.source.proofs.Growing.{Within, within_more, within_heard}
+use Rattle.source.proofs.Lanes.{heard_lane, heard_more_lem}
+use Rattle.source.proofs.Counts.{HasSlot, counts_one, slot_one}
 use Rattle.sheet.proofs.Offering.{Countable, recorded, numbered}
-use Rattle.base.proofs.OneMore.{sum-part, sum-set}
+use Rattle.base.proofs.OneMore.{sum_part, sum_set}
 
 -- a sheet that has taken n frames
 pub record Grown (own : Edition) (n : ℕ) (sheet : Sheet) : Type 0 where
-  pub sources-long : length sheet.sources ≡ recordsOf own
-  pub refusals-long : length sheet.refusals ≡ refusalCounts
-  pub heard-is : heardOf own sheet ≡ n
-  pub within : (k : ℕ) (role : Role) → Within n (laneAt sheet k role)
+  pub sources_long : length sheet.sources ≡ records_of own
+  pub refusals_long : length sheet.refusals ≡ refusal_counts
+  pub heard_is : heard_of own sheet ≡ n
+  pub within : (k : ℕ) (role : Role) → Within n (lane_at sheet k role)
 
 module _ (own : Edition) (n : ℕ) (sheet : Sheet) (so : Grown own n sheet) where
   -- no refusal's count is above the number of frames
-  pub refusals-le : (k : ℕ) → k < refusalCounts → refusalsAt sheet k ≤ n
-  unfolding refusedOf
-  refusals-le k h = omega (arith, so.heard-is, sum-part (refusalsAt sheet) k refusalCounts h)
+  pub refusals_le : (k : ℕ) → k < refusal_counts → refusals_at sheet k ≤ n
+  unfolding refused_of
+  refusals_le k h = omega (arith, so.heard_is, sum_part (refusals_at sheet) k refusal_counts h)
 
   -- a lane hears its own frames
-  pub counted-own : (k : ℕ) (role : Role) (a : Answer) → Countable own a → laneAt (countedOf sheet a) k role ≡ replayFrom (laneAt sheet k role) (ownIn k role a)
-  unfolding acceptOf
-  counted-own k role (Refused why) (numbered has) = refl
-  counted-own k role (Accepted h flips) (recorded known few) = heard-lane sheet.sources h flips (rw so.sources-long known) k role
+  pub counted_own : (k : ℕ) (role : Role) (a : Answer) → Countable own a → lane_at (counted_of sheet a) k role ≡ replay_from (lane_at sheet k role) (own_in k role a)
+  unfolding accept_of
+  counted_own k role (Refused why) (numbered has) = refl
+  counted_own k role (Accepted h flips) (recorded known few) = heard_lane sheet.sources h flips (rw so.sources_long known) k role
 
-  module _ (room : n < fullSheet) where
+  module _ (room : n < full_sheet) where
     -- a count of a sheet with room has room
-    exact : (count : ℕ) → count ≤ n → addOf count 1 ≡ count + 1
+    exact : (count : ℕ) → count ≤ n → add_of count 1 ≡ count + 1
     exact count h = omega arith
 
     -- so a refusal's count grows by one
-    refusal-more : (number : ℕ) → HasSlot number → addOf (refusalsAt sheet (slot_of number)) 1 ≡ refusalsAt sheet (slot_of number) + 1
-    refusal-more number has = exact (refusalsAt sheet (slot_of number)) (refusals-le (slot_of number) has)
+    refusal_more : (number : ℕ) → HasSlot number → add_of (refusals_at sheet (slot_of number)) 1 ≡ refusals_at sheet (slot_of number) + 1
+    refusal_more number has = exact (refusals_at sheet (slot_of number)) (refusals_le (slot_of number) has)
 
     -- a refusal's count grows by the answers with its number
-    pub counted-refusals : (number : ℕ) → HasSlot number → (a : Answer) → Countable own a → refusalsAt (countedOf sheet a) (slot_of number) ≡ refusalsAt sheet (slot_of number) + refusedIn number a
-    unfolding acceptOf
-    counted-refusals number known (Accepted h flips) countable = omega arith
-    counted-refusals number known (Refused why) (numbered has) = by (eqb why.number number) refl
+    pub counted_refusals : (number : ℕ) → HasSlot number → (a : Answer) → Countable own a → refusals_at (counted_of sheet a) (slot_of number) ≡ refusals_at sheet (slot_of number) + refused_in number a
+    unfolding accept_of
+    counted_refusals number known (Accepted h flips) countable = omega arith
+    counted_refusals number known (Refused why) (numbered has) = by (eqb why.number number) refl
       where
         i : ℕ
         i = slot_of why.number
 
         more : ℕ
-        more = addOf (refusalsAt sheet i) 1
+        more = add_of (refusals_at sheet i) 1
 
-        by : (b : Bool) → eqb why.number number ≡ b → refusalsAt (refuseOf sheet why.number) (slot_of number) ≡ refusalsAt sheet (slot_of number) + cond b 1 0
+        by : (b : Bool) → eqb why.number number ≡ b → refusals_at (refuse_of sheet why.number) (slot_of number) ≡ refusals_at sheet (slot_of number) + cond b 1 0
         by true e =
             let own : why.number ≡ number = eqb-true why.number number e in
-            rw (← own, counts-one sheet.refusals why.number has) (get_or-set_same sheet.refusals i more 0 (rw so.refusals-long has) ∙ refusal-more why.number has)
+            rw (← own, counts_one sheet.refusals why.number has) (get_or-set_same sheet.refusals i more 0 (rw so.refusals_long has) ∙ refusal_more why.number has)
         by false e =
-            rw (counts-one sheet.refusals why.number has)
-            (get_or-set_other sheet.refusals i (slot_of number) more 0 (λ (q : slot_of number ≡ i). eqb-false why.number number e (slot-one why.number number has q)) ∙ omega arith)
+            rw (counts_one sheet.refusals why.number has)
+            (get_or-set_other sheet.refusals i (slot_of number) more 0 (λ (q : slot_of number ≡ i). eqb-false why.number number e (slot_one why.number number has q)) ∙ omega arith)
 
     -- the sum of all counts grows by one
-    pub counted-heard : (a : Answer) → Countable own a → heardOf own (countedOf sheet a) ≡ n + 1
-    unfolding acceptOf acceptedOf refusedOf
-    counted-heard (Accepted h flips) (recorded known few) =
-        omega (arith, so.heard-is, heard-more sheet.sources h flips (rw so.sources-long known) (recordsOf own) known (λ role. omega (arith, so.within (recordOf h) role)))
-    counted-heard (Refused why) (numbered has) =
+    pub counted_heard : (a : Answer) → Countable own a → heard_of own (counted_of sheet a) ≡ n + 1
+    unfolding accept_of accepted_of refused_of
+    counted_heard (Accepted h flips) (recorded known few) =
+        omega (arith, so.heard_is, heard_more_lem sheet.sources h flips (rw so.sources_long known) (records_of own) known (λ role. omega (arith, so.within (record_of h) role)))
+    counted_heard (Refused why) (numbered has) =
         let i = slot_of why.number in
-        rw (counts-one sheet.refusals why.number has)
-        (omega (arith, so.heard-is, sum-set (λ c. c) 0 sheet.refusals i (addOf (refusalsAt sheet i) 1) refusalCounts has (rw so.refusals-long has) (refusal-more why.number has)))
+        rw (counts_one sheet.refusals why.number has)
+        (omega (arith, so.heard_is, sum_set (λ c. c) 0 sheet.refusals i (add_of (refusals_at sheet i) 1) refusal_counts has (rw so.refusals_long has) (refusal_more why.number has)))
 
   -- every lane stays within its bounds
-  counted-within : (a : Answer) → Countable own a → (k : ℕ) (role : Role) → Within (n + 1) (laneAt (countedOf sheet a) k role)
-  counted-within (Accepted h flips) (recorded known few) k role =
-      rw (counted-own k role (Accepted h flips) (recorded known few))
-      (within-heard (ofLane k role (Accepted h flips)) n (laneAt sheet k role) (so.within k role) (record { counter = h.«fields».fr_cnt_tx; flips = flips }) few)
-  counted-within (Refused why) known k role = rw (counted-own k role (Refused why) known) (within_more n (laneAt sheet k role) (so.within k role))
+  counted_within : (a : Answer) → Countable own a → (k : ℕ) (role : Role) → Within (n + 1) (lane_at (counted_of sheet a) k role)
+  counted_within (Accepted h flips) (recorded known few) k role =
+      rw (counted_own k role (Accepted h flips) (recorded known few))
+      (within_heard (of_lane k role (Accepted h flips)) n (lane_at sheet k role) (so.within k role) (record { counter = h.«fields».fr_cnt_tx; flips = flips }) few)
+  counted_within (Refused why) known k role = rw (counted_own k role (Refused why) known) (within_more n (lane_at sheet k role) (so.within k role))
 
   -- no record and no count comes or goes
-  counted-sources-long : (a : Answer) → Countable own a → length (countedOf sheet a).sources ≡ recordsOf own
-  unfolding acceptOf
-  counted-sources-long (Accepted h flips) known = length-set sheet.sources (recordOf h) _ ∙ so.sources-long
-  counted-sources-long (Refused why) (numbered has) = so.sources-long
+  counted_sources_long : (a : Answer) → Countable own a → length (counted_of sheet a).sources ≡ records_of own
+  unfolding accept_of
+  counted_sources_long (Accepted h flips) known = length-set sheet.sources (record_of h) _ ∙ so.sources_long
+  counted_sources_long (Refused why) (numbered has) = so.sources_long
 
-  counted-refusals-long : (a : Answer) → Countable own a → length (countedOf sheet a).refusals ≡ refusalCounts
-  unfolding acceptOf
-  counted-refusals-long (Accepted h flips) known = so.refusals-long
-  counted-refusals-long (Refused why) (numbered has) = rw (counts-one sheet.refusals why.number has) (length-set sheet.refusals (slot_of why.number) _ ∙ so.refusals-long)
+  counted_refusals_long : (a : Answer) → Countable own a → length (counted_of sheet a).refusals ≡ refusal_counts
+  unfolding accept_of
+  counted_refusals_long (Accepted h flips) known = so.refusals_long
+  counted_refusals_long (Refused why) (numbered has) = rw (counts_one sheet.refusals why.number has) (length-set sheet.refusals (slot_of why.number) _ ∙ so.refusals_long)
 
   -- so the sheet has taken one frame more
-  pub counted-grown : n < fullSheet → (a : Answer) → Countable own a → Grown own (n + 1) (countedOf sheet a)
-  counted-grown room a known = record {
-    sources-long = counted-sources-long a known;
-    refusals-long = counted-refusals-long a known;
-    heard-is = counted-heard room a known;
-    within = counted-within a known;
+  pub counted_grown : n < full_sheet → (a : Answer) → Countable own a → Grown own (n + 1) (counted_of sheet a)
+  counted_grown room a known = record {
+    sources_long = counted_sources_long a known;
+    refusals_long = counted_refusals_long a known;
+    heard_is = counted_heard room a known;
+    within = counted_within a known;
   }

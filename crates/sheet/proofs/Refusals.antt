@@ -8,27 +8,27 @@ use Rattle.base.proofs.Exactly.{exactly}
 use Rattle.base.proofs.Numbers.{numbers}
 use Rattle.header.specs.declared.Answer.{Answer}
 use Rattle.header.specs.declared.Answer.TheVariants.{Refused}
-use Rattle.header_reader.specs.Reading.{repairedAnswer}
-use Rattle.header_reader.proofs.GoesOn.{not-refused}
-use Rattle.frame.specs.Frames.{Frame, wholeOrder}
+use Rattle.header_reader.specs.Reading.{repaired_answer}
+use Rattle.header_reader.proofs.GoesOn.{not_refused}
+use Rattle.frame.specs.Frames.{Frame, whole_order}
 use Rattle.frame.proofs.Bounds.{number_in}
 use Rattle.sheet.specs.declared.Sheet.{Sheet}
-use Rattle.sheet.specs.Sheets.{countedOf, offerChecks, offerAnswer, offerOf}
-use Rattle.sheet.proofs.Offering.{offered-answer}
+use Rattle.sheet.specs.Sheets.{counted_of, offer_checks, offer_answer, offer_of}
+use Rattle.sheet.proofs.Offering.{offered_answer}
 
 -- the whole order: 17, 22, and then the frame's
-pub offer-numbered : (own : Edition) (sheet : Sheet) (f : Frame) → numbers number_in (offerChecks own sheet f) ≡ wholeOrder
-offer-numbered own sheet f = refl
+pub offer_numbered : (own : Edition) (sheet : Sheet) (f : Frame) → numbers number_in (offer_checks own sheet f) ≡ whole_order
+offer_numbered own sheet f = refl
 
 module _ (own : Edition) (sheet : Sheet) (f : Frame) where
   -- "Given exactly when", 17 and 22 among them
-  answered-exactly : (why : Refusal) → Exactly (offerAnswer own sheet f) (Refused why) (offerChecks own sheet f)
-  unfolding offerAnswer
-  answered-exactly why = exactly (repairedAnswer f.head) (Refused why) (offerChecks own sheet f) (not-refused f.head why)
+  answered_exactly : (why : Refusal) → Exactly (offer_answer own sheet f) (Refused why) (offer_checks own sheet f)
+  unfolding offer_answer
+  answered_exactly why = exactly (repaired_answer f.head) (Refused why) (offer_checks own sheet f) (not_refused f.head why)
 
-  pub offered-exactly : (why : Refusal) → Exactly (offerOf own sheet f).read.answer (Refused why) (offerChecks own sheet f)
-  offered-exactly why = rw (offered-answer own sheet f) (answered-exactly why)
+  pub offered_exactly : (why : Refusal) → Exactly (offer_of own sheet f).read.answer (Refused why) (offer_checks own sheet f)
+  offered_exactly why = rw (offered_answer own sheet f) (answered_exactly why)
 
   -- a refused frame "touches no frame record"
-  pub refused-keeps : (why : Refusal) → (offerOf own sheet f).read.answer ≡ Refused why → (offerOf own sheet f).sheet.sources ≡ sheet.sources
-  refused-keeps why e = ap (λ (a : Answer). (countedOf sheet a).sources) (sym (offered-answer own sheet f) ∙ e)
+  pub refused_keeps : (why : Refusal) → (offer_of own sheet f).read.answer ≡ Refused why → (offer_of own sheet f).sheet.sources ≡ sheet.sources
+  refused_keeps why e = ap (λ (a : Answer). (counted_of sheet a).sources) (sym (offered_answer own sheet f) ∙ e)

@@ -13,62 +13,62 @@ use Rattle.header.specs.declared.Answer.TheVariants.{Accepted, Refused}
 use Rattle.frame.specs.Frames.{Frame, frame_of}
 use Rattle.sheet.specs.declared.Sheet.{Sheet}
 use Rattle.sheet.specs.declared.Offered.{Offered}
-use Rattle.sheet.specs.Sheets.{newSheet, acceptOf, countedOf, acceptedOf, refusedOf, heardOf, fullSheet, editionOf, offerOf}
-use Rattle.sheet.specs.Histories.{run_of, sheetOf, ofEdition}
-use Rattle.sheet.proofs.Offering.{frame-countable, answers-frame, offered-answer}
-use Rattle.sheet.proofs.Refusals.{refused-keeps}
-use Rattle.sheet.proofs.Counted.{counted-heard}
-use Rattle.sheet.proofs.Running.{AllOwn, all-of-edition, history-grown}
-use Rattle.sheet.proofs.History.{taken-before}
+use Rattle.sheet.specs.Sheets.{new_sheet, accept_of, counted_of, accepted_of, refused_of, heard_of, full_sheet, edition_of, offer_of}
+use Rattle.sheet.specs.Histories.{run_of, sheet_of, of_edition}
+use Rattle.sheet.proofs.Offering.{frame_countable, answers_frame, offered_answer}
+use Rattle.sheet.proofs.Refusals.{refused_keeps}
+use Rattle.sheet.proofs.Counted.{counted_heard}
+use Rattle.sheet.proofs.Running.{AllOwn, all_of_edition, history_grown}
+use Rattle.sheet.proofs.History.{taken_before}
 
 -- a sheet after some frames and one more
-pub run-one-more : (own : Edition) (fs : List Frame) (sheet : Sheet) (f : Frame) → run_of own sheet (fs ++ f ∷ []) ≡ (offerOf own (run_of own sheet fs) f).sheet
-run-one-more own [] sheet f = refl
-run-one-more own (g ∷ fs) sheet f = run-one-more own fs (offerOf own sheet g).sheet f
+pub run_one_more : (own : Edition) (fs : List Frame) (sheet : Sheet) (f : Frame) → run_of own sheet (fs ++ f ∷ []) ≡ (offer_of own (run_of own sheet fs) f).sheet
+run_one_more own [] sheet f = refl
+run_one_more own (g ∷ fs) sheet f = run_one_more own fs (offer_of own sheet g).sheet f
 
 -- an accepted frame leaves the refused as they are
-accept-keeps : (sheet : Sheet) (h : Header) (flips : ℕ) → refusedOf (acceptOf sheet h flips) ≡ refusedOf sheet
-unfolding acceptOf refusedOf
-accept-keeps sheet h flips = refl
+accept_keeps : (sheet : Sheet) (h : Header) (flips : ℕ) → refused_of (accept_of sheet h flips) ≡ refused_of sheet
+unfolding accept_of refused_of
+accept_keeps sheet h flips = refl
 
 -- where the records are the same, so are the accepted
-same-accepted : (own : Edition) (s t : Sheet) → s.sources ≡ t.sources → acceptedOf own s ≡ acceptedOf own t
-unfolding acceptedOf
-same-accepted own s t e = rw e
+same_accepted : (own : Edition) (s t : Sheet) → s.sources ≡ t.sources → accepted_of own s ≡ accepted_of own t
+unfolding accepted_of
+same_accepted own s t e = rw e
 
 -- frames of the sheet's edition, and one more of it
-module _ (own : Edition) (history : List Frame) (all : AllOwn own history) (room : length history < fullSheet) (f : Frame) (mine : editionOf f ≡ own) where
-  taken : length (ofEdition own history) < fullSheet
-  taken = rw (all-of-edition own history all) room
+module _ (own : Edition) (history : List Frame) (all : AllOwn own history) (room : length history < full_sheet) (f : Frame) (mine : edition_of f ≡ own) where
+  taken : length (of_edition own history) < full_sheet
+  taken = rw (all_of_edition own history all) room
 
   -- the sheet after the frame has counted its answer
-  counts : (a : Answer) → frame_of f ≡ a → sheetOf own (history ++ f ∷ []) ≡ countedOf (sheetOf own history) a
-  counts a is = run-one-more own history (newSheet own) f ∙ ap (λ (o : Offered). o.sheet) (taken-before own history taken f mine) ∙ ap (countedOf (sheetOf own history)) is
+  counts : (a : Answer) → frame_of f ≡ a → sheet_of own (history ++ f ∷ []) ≡ counted_of (sheet_of own history) a
+  counts a is = run_one_more own history (new_sheet own) f ∙ ap (λ (o : Offered). o.sheet) (taken_before own history taken f mine) ∙ ap (counted_of (sheet_of own history)) is
 
-  has_room : heardOf own (sheetOf own history) < fullSheet
-  has_room = omega (arith, taken, (history-grown own history).heard-is)
+  has_room : heard_of own (sheet_of own history) < full_sheet
+  has_room = omega (arith, taken, (history_grown own history).heard_is)
 
-  one_more : heardOf own (sheetOf own (history ++ f ∷ [])) ≡ heardOf own (sheetOf own history) + 1
+  one_more : heard_of own (sheet_of own (history ++ f ∷ [])) ≡ heard_of own (sheet_of own history) + 1
   one_more =
-      let so = history-grown own history in
-      let few : min fullSheet (length (ofEdition own history)) < fullSheet = omega (arith, taken) in
-      ap (heardOf own) (counts (frame_of f) refl)
-      ∙ counted-heard own (min fullSheet (length (ofEdition own history))) (sheetOf own history) so few (frame_of f) (frame-countable own f mine)
-      ∙ ap (λ (n : ℕ). n + 1) (sym so.heard-is)
+      let so = history_grown own history in
+      let few : min full_sheet (length (of_edition own history)) < full_sheet = omega (arith, taken) in
+      ap (heard_of own) (counts (frame_of f) refl)
+      ∙ counted_heard own (min full_sheet (length (of_edition own history))) (sheet_of own history) so few (frame_of f) (frame_countable own f mine)
+      ∙ ap (λ (n : ℕ). n + 1) (sym so.heard_is)
 
   module _ (h : Header) (flips : ℕ) (is : frame_of f ≡ Accepted h flips) where
-    pub accepted-keeps-refused : refusedOf (sheetOf own (history ++ f ∷ [])) ≡ refusedOf (sheetOf own history)
-    accepted-keeps-refused = ap refusedOf (counts (Accepted h flips) is) ∙ accept-keeps (sheetOf own history) h flips
+    pub accepted_keeps_refused : refused_of (sheet_of own (history ++ f ∷ [])) ≡ refused_of (sheet_of own history)
+    accepted_keeps_refused = ap refused_of (counts (Accepted h flips) is) ∙ accept_keeps (sheet_of own history) h flips
 
-    pub accepted-adds-one : acceptedOf own (sheetOf own (history ++ f ∷ [])) ≡ acceptedOf own (sheetOf own history) + 1
-    accepted-adds-one = omega (arith, one_more, accepted-keeps-refused)
+    pub accepted_adds_one : accepted_of own (sheet_of own (history ++ f ∷ [])) ≡ accepted_of own (sheet_of own history) + 1
+    accepted_adds_one = omega (arith, one_more, accepted_keeps_refused)
 
   module _ (why : Refusal) (is : frame_of f ≡ Refused why) where
-    pub refused-keeps-accepted : acceptedOf own (sheetOf own (history ++ f ∷ [])) ≡ acceptedOf own (sheetOf own history)
-    refused-keeps-accepted =
-        ap (acceptedOf own) (run-one-more own history (newSheet own) f)
-        ∙ same-accepted own (offerOf own (sheetOf own history) f).sheet (sheetOf own history)
-        (refused-keeps own (sheetOf own history) f why (offered-answer own (sheetOf own history) f ∙ answers-frame own (sheetOf own history) f has_room mine ∙ is))
+    pub refused_keeps_accepted : accepted_of own (sheet_of own (history ++ f ∷ [])) ≡ accepted_of own (sheet_of own history)
+    refused_keeps_accepted =
+        ap (accepted_of own) (run_one_more own history (new_sheet own) f)
+        ∙ same_accepted own (offer_of own (sheet_of own history) f).sheet (sheet_of own history)
+        (refused_keeps own (sheet_of own history) f why (offered_answer own (sheet_of own history) f ∙ answers_frame own (sheet_of own history) f has_room mine ∙ is))
 
-    pub refused-adds-one : refusedOf (sheetOf own (history ++ f ∷ [])) ≡ refusedOf (sheetOf own history) + 1
-    refused-adds-one = omega (arith, one_more, refused-keeps-accepted)
+    pub refused_adds_one : refused_of (sheet_of own (history ++ f ∷ [])) ≡ refused_of (sheet_of own history) + 1
+    refused_adds_one = omega (arith, one_more, refused_keeps_accepted)

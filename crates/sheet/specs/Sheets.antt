@@ -8,99 +8,99 @@ use Rattle.base.specs.Checks.{Check, check, first, refusal}
 use Rattle.header.specs.declared.Header.{Header}
 use Rattle.header.specs.declared.Answer.{Answer}
 use Rattle.header.specs.declared.Answer.TheVariants.{Accepted, Refused}
-use Rattle.header.specs.Fields.{lastSourceOf}
-use Rattle.header_reader.specs.Reading.{repairedAnswer, patternsOf}
+use Rattle.header.specs.Fields.{last_source_of}
+use Rattle.header_reader.specs.Reading.{repaired_answer, patterns_of}
 use Rattle.header.specs.Patterns.{beside}
-use Rattle.frame.specs.Frames.{Frame, frameChecks}
+use Rattle.frame.specs.Frames.{Frame, frame_checks}
 use Rattle.source.specs.declared.Lane.{Lane}
 use Rattle.source.specs.declared.Source.{Source}
 use Rattle.source.specs.declared.Display.{Display}
-use Rattle.source.specs.Lanes.{Role, lane_of, silent, sourceIn, heardIn, acceptedIn, displayIn}
-use Rattle.source.specs.Counts.{refusalCounts, countsAfter, totalIn}
+use Rattle.source.specs.Lanes.{Role, lane_of, silent, source_in, heard_in, accepted_in, display_in}
+use Rattle.source.specs.Counts.{refusal_counts, counts_after, total_in}
 use Rattle.sheet.specs.declared.Sheet.{Sheet}
 use Rattle.sheet.specs.declared.Offered.{Offered}
 
 -- "Eight records, one per SrcId": as many as there are sources that are not refused; "eight records for flown, 128 for corrected"
-abbrev pub recordsOf : Edition → ℕ
-recordsOf own = suc (lastSourceOf own)
+abbrev pub records_of : Edition → ℕ
+records_of own = suc (last_source_of own)
 
 -- "A new sheet is the only reset."
-abbrev pub newSheet : Edition → Sheet
-newSheet own = record { sources = replicate (recordsOf own) silent; refusals = replicate refusalCounts 0 }
+abbrev pub new_sheet : Edition → Sheet
+new_sheet own = record { sources = replicate (records_of own) silent; refusals = replicate refusal_counts 0 }
 
 -- what stands on a sheet
-abbrev pub sourceAt : Sheet → ℕ → Source
-sourceAt sheet k = sourceIn sheet.sources k
+abbrev pub source_at : Sheet → ℕ → Source
+source_at sheet k = source_in sheet.sources k
 
-abbrev pub laneAt : Sheet → ℕ → Role → Lane
-laneAt sheet k role = lane_of role (sourceAt sheet k)
+abbrev pub lane_at : Sheet → ℕ → Role → Lane
+lane_at sheet k role = lane_of role (source_at sheet k)
 
-abbrev pub refusalsAt : Sheet → ℕ → ℕ
-refusalsAt sheet k = get_or sheet.refusals k 0
+abbrev pub refusals_at : Sheet → ℕ → ℕ
+refusals_at sheet k = get_or sheet.refusals k 0
 
 -- an accepted frame changes its source's record
-unfoldable pub acceptOf : Sheet → Header → ℕ → Sheet
-acceptOf sheet h flips = record { sources = heardIn sheet.sources h flips; refusals = sheet.refusals }
+unfoldable pub accept_of : Sheet → Header → ℕ → Sheet
+accept_of sheet h flips = record { sources = heard_in sheet.sources h flips; refusals = sheet.refusals }
 
-abbrev pub refuseOf : Sheet → ℕ → Sheet
-refuseOf sheet number = record { sources = sheet.sources; refusals = countsAfter sheet.refusals number }
+abbrev pub refuse_of : Sheet → ℕ → Sheet
+refuse_of sheet number = record { sources = sheet.sources; refusals = counts_after sheet.refusals number }
 
-abbrev pub countedOf : Sheet → Answer → Sheet
-countedOf sheet (Accepted h flips) = acceptOf sheet h flips
-countedOf sheet (Refused why) = refuseOf sheet why.number
+abbrev pub counted_of : Sheet → Answer → Sheet
+counted_of sheet (Accepted h flips) = accept_of sheet h flips
+counted_of sheet (Refused why) = refuse_of sheet why.number
 
 -- "accepted over all sources plus refused over all numbers"
-unfoldable pub acceptedOf : Edition → Sheet → ℕ
-acceptedOf own sheet = acceptedIn (recordsOf own) sheet.sources
+unfoldable pub accepted_of : Edition → Sheet → ℕ
+accepted_of own sheet = accepted_in (records_of own) sheet.sources
 
-unfoldable pub refusedOf : Sheet → ℕ
-refusedOf sheet = totalIn sheet.refusals
+unfoldable pub refused_of : Sheet → ℕ
+refused_of sheet = total_in sheet.refusals
 
-abbrev pub heardOf : Edition → Sheet → ℕ
-heardOf own sheet = acceptedOf own sheet + refusedOf sheet
+abbrev pub heard_of : Edition → Sheet → ℕ
+heard_of own sheet = accepted_of own sheet + refused_of sheet
 
 -- "it is full when that sum is 65,535 or more"
-abbrev pub fullSheet : ℕ
-fullSheet = 65535
+abbrev pub full_sheet : ℕ
+full_sheet = 65535
 
 abbrev pub full_of : Edition → Sheet → Bool
-full_of own sheet = leb fullSheet (heardOf own sheet)
+full_of own sheet = leb full_sheet (heard_of own sheet)
 
 -- whether two editions are the same
-abbrev pub sameEdition : Edition → Edition → Bool
-sameEdition Flown Flown = true
-sameEdition Flown Corrected = false
-sameEdition Corrected Flown = false
-sameEdition Corrected Corrected = true
+abbrev pub same_edition : Edition → Edition → Bool
+same_edition Flown Flown = true
+same_edition Flown Corrected = false
+same_edition Corrected Flown = false
+same_edition Corrected Corrected = true
 
 -- the edition that a frame is read under
-abbrev pub editionOf : Frame → Edition
-editionOf f = f.head.rules.edition
+abbrev pub edition_of : Frame → Edition
+edition_of f = f.head.rules.edition
 
 -- THE PAPER'S TABLE, with the rows that a sheet puts before the frame's
 -- 17, "sheet full, checked before anything else, sheet unchanged (place 65,535)"
-abbrev pub sheetFull : Edition → Sheet → Check Answer
-sheetFull own sheet = check (full_of own sheet) (Refused (refusal 17 fullSheet))
+abbrev pub sheet_full : Edition → Sheet → Check Answer
+sheet_full own sheet = check (full_of own sheet) (Refused (refusal 17 full_sheet))
 
 -- 22, "a frame offered to a sheet of the other edition, after 17 and before 20 (place: 0)"
-abbrev pub otherEdition : Edition → Frame → Check Answer
-otherEdition own f = check (not (sameEdition (editionOf f) own)) (Refused (refusal 22 0))
+abbrev pub other_edition : Edition → Frame → Check Answer
+other_edition own f = check (not (same_edition (edition_of f) own)) (Refused (refusal 22 0))
 
-abbrev pub offerChecks : Edition → Sheet → Frame → List (Check Answer)
-offerChecks own sheet f = sheetFull own sheet ∷ otherEdition own f ∷ frameChecks f
+abbrev pub offer_checks : Edition → Sheet → Frame → List (Check Answer)
+offer_checks own sheet f = sheet_full own sheet ∷ other_edition own f ∷ frame_checks f
 
 -- the answer to a frame that is offered
-unfoldable pub offerAnswer : Edition → Sheet → Frame → Answer
-offerAnswer own sheet f = first (repairedAnswer f.head) (offerChecks own sheet f)
+unfoldable pub offer_answer : Edition → Sheet → Frame → Answer
+offer_answer own sheet f = first (repaired_answer f.head) (offer_checks own sheet f)
 
 -- an answer with patterns beside it, and the sheet that has counted it
 abbrev pub taken_of : Sheet → List ℕ → Answer → Offered
-taken_of sheet patterns answer = record { read = beside patterns answer; sheet = countedOf sheet answer }
+taken_of sheet patterns answer = record { read = beside patterns answer; sheet = counted_of sheet answer }
 
 -- a frame offered: the answer, the patterns of its words, and the sheet after it
-abbrev pub offerOf : Edition → Sheet → Frame → Offered
-offerOf own sheet f = taken_of sheet (patternsOf f.head) (offerAnswer own sheet f)
+abbrev pub offer_of : Edition → Sheet → Frame → Offered
+offer_of own sheet f = taken_of sheet (patterns_of f.head) (offer_answer own sheet f)
 
 -- a source's numbers for display
-abbrev pub displayOf : Edition → Sheet → ℕ → Display
-displayOf own sheet source = displayIn (recordsOf own) sheet.sources source
+abbrev pub display_of : Edition → Sheet → ℕ → Display
+display_of own sheet source = display_in (records_of own) sheet.sources source

@@ -3,11 +3,11 @@
 ghost use Rattle.std.specs.Prelude.{◌≡◌, ◌*◌, ◌<◌, ◌≤◌};
 ghost use Rattle.word.specs.Repairs.{syndromes};
 ghost use Rattle.sign.specs.Calls.{call_of};
-ghost use Rattle.frame.specs.Frames.{frame, signedFrame, frameWith};
-ghost use Rattle.source.specs.Records.{countLimit};
-ghost use Rattle.source.specs.Lanes.{lanes, recordOf};
-ghost use Rattle.source.specs.Counts.{refusalCounts};
-ghost use Rattle.sheet.specs.Sheets.{recordsOf, newSheet, acceptOf, acceptedOf, refusedOf, heardOf, fullSheet, full_of, sameEdition, offerOf, displayOf};
+ghost use Rattle.frame.specs.Frames.{frame, signed_frame, frame_with};
+ghost use Rattle.source.specs.Records.{count_limit};
+ghost use Rattle.source.specs.Lanes.{lanes, record_of};
+ghost use Rattle.source.specs.Counts.{refusal_counts};
+ghost use Rattle.sheet.specs.Sheets.{records_of, new_sheet, accept_of, accepted_of, refused_of, heard_of, full_sheet, full_of, same_edition, offer_of, display_of};
 
 use air::WORD_COUNT;
 use base::{Edition, OTHER_EDITION, Refusal, SHEET_FULL};
@@ -37,7 +37,7 @@ pub const FULL: u64 = 65535;
 
 // A sheet that was offered nothing.
 pub fn new_sheet() -> Sheet
-    ensures { result ≡ newSheet Edition.Flown }
+    ensures { result ≡ new_sheet Edition.Flown }
 {
     let source = source::never_heard();
     Sheet {
@@ -48,8 +48,8 @@ pub fn new_sheet() -> Sheet
 
 // The sheet after an accepted frame.
 fn accept(sheet: Sheet, header: Header, flips: u32) -> Sheet
-    requires { recordOf header < recordsOf Edition.Flown }
-    ensures { result ≡ acceptOf sheet header flips }
+    requires { record_of header < records_of Edition.Flown }
+    ensures { result ≡ accept_of sheet header flips }
 {
     let mut after = sheet;
     let k = header.fields.src_id as usize;
@@ -61,7 +61,7 @@ fn accept(sheet: Sheet, header: Header, flips: u32) -> Sheet
 
 // The numbers of any source. One without a record has those of a source that was never heard.
 pub fn display_of(sheet: Sheet, source: u8) -> Display
-    ensures { result ≡ displayOf Edition.Flown sheet source }
+    ensures { result ≡ display_of Edition.Flown sheet source }
 {
     let k = source as usize;
     if RECORDS <= k {
@@ -73,8 +73,8 @@ pub fn display_of(sheet: Sheet, source: u8) -> Display
 
 // Frames accepted over all sources.
 pub fn accepted(sheet: Sheet) -> u64
-    ensures value { result ≡ acceptedOf Edition.Flown sheet }
-    ensures upper_bound { result ≤ recordsOf Edition.Flown * (lanes * countLimit) }
+    ensures value { result ≡ accepted_of Edition.Flown sheet }
+    ensures upper_bound { result ≤ records_of Edition.Flown * (lanes * count_limit) }
 {
     let mut sum: u64 = 0;
     let mut k = 0;
@@ -88,8 +88,8 @@ pub fn accepted(sheet: Sheet) -> u64
 
 // Frames refused over all numbers.
 pub fn refused(sheet: Sheet) -> u64
-    ensures value { result ≡ refusedOf sheet }
-    ensures upper_bound { result ≤ refusalCounts * countLimit }
+    ensures value { result ≡ refused_of sheet }
+    ensures upper_bound { result ≤ refusal_counts * count_limit }
 {
     let counts = sheet.refusals;
     source::total(counts)
@@ -97,7 +97,7 @@ pub fn refused(sheet: Sheet) -> u64
 
 // Frames offered so far.
 pub fn heard(sheet: Sheet) -> u64
-    ensures { result ≡ heardOf Edition.Flown sheet }
+    ensures { result ≡ heard_of Edition.Flown sheet }
 {
     accepted(sheet) + refused(sheet)
 }
@@ -111,7 +111,7 @@ pub fn full(sheet: Sheet) -> bool
 
 // Whether an edition is the sheet's own.
 fn is_own(edition: Edition) -> bool
-    ensures { result ≡ sameEdition edition Edition.Flown }
+    ensures { result ≡ same_edition edition Edition.Flown }
 {
     match edition {
         Edition::Flown => true,
@@ -131,9 +131,9 @@ fn take_in(
     payload: &[u8],
 ) -> Offered
     requires table_value { table.now ≡ syndromes }
-    requires sheet_bound { heardOf Edition.Flown sheet < fullSheet }
+    requires sheet_bound { heard_of Edition.Flown sheet < full_sheet }
     requires edition_value { rules.edition ≡ Edition.Flown }
-    ensures { result ≡ offerOf Edition.Flown sheet (frameWith rules (call_of given call.now) air.now payload.now) }
+    ensures { result ≡ offer_of Edition.Flown sheet (frame_with rules (call_of given call.now) air.now payload.now) }
 {
     let read = frame::read_frame_with(table, rules, given, call, air, payload);
     let answer = read.answer;
@@ -161,7 +161,7 @@ fn offer_with(
     air: &[u8],
     payload: &[u8],
 ) -> Offered
-    ensures { result ≡ offerOf Edition.Flown sheet (frameWith rules (call_of given call.now) air.now payload.now) }
+    ensures { result ≡ offer_of Edition.Flown sheet (frame_with rules (call_of given call.now) air.now payload.now) }
 {
     let edition = rules.edition;
     let own = is_own(edition);
@@ -188,7 +188,7 @@ fn offer_with(
 // A frame offered to any sheet. A full sheet refuses it with 17, and a frame of the other edition is refused with 22; the sheet stays as
 // it is then. Else the frame has its own answer, and the sheet has counted it.
 pub fn offer(sheet: Sheet, rules: Rules, air: &[u8], payload: &[u8]) -> Offered
-    ensures { result ≡ offerOf Edition.Flown sheet (frame rules air.now payload.now) }
+    ensures { result ≡ offer_of Edition.Flown sheet (frame rules air.now payload.now) }
 {
     offer_with(sheet, rules, false, b"", air, payload)
 }
@@ -196,7 +196,7 @@ pub fn offer(sheet: Sheet, rules: Rules, air: &[u8], payload: &[u8]) -> Offered
 // The same with call sign bits, any bytes: 23 after 2, and 24 after 5. A frame of the corrected edition is refused with 22, and its call
 // sign is not looked at.
 pub fn offer_signed(sheet: Sheet, rules: Rules, call: &[u8], air: &[u8], payload: &[u8]) -> Offered
-    ensures { result ≡ offerOf Edition.Flown sheet (signedFrame rules call.now air.now payload.now) }
+    ensures { result ≡ offer_of Edition.Flown sheet (signed_frame rules call.now air.now payload.now) }
 {
     offer_with(sheet, rules, true, call, air, payload)
 }

@@ -6,25 +6,25 @@ use mathlib.Core.List.{List, ◌++◌}
 use Prim.Native.Nat.{ℕ, zero, suc}
 use Rattle.base.specs.declared.Edition.{Edition}
 use Rattle.lines.specs.declared.Tally.{Tally}
-use Rattle.lines.specs.Lines.{closingOf}
-use Rattle.source.specs.Lanes.{sourceIn}
+use Rattle.lines.specs.Lines.{closing_of}
+use Rattle.source.specs.Lanes.{source_in}
 use Rattle.sheet.specs.declared.Sheet.{Sheet}
-use Rattle.sheet.specs.Sheets.{recordsOf, sourceAt}
-use Rattle.sheet_lines.specs.Lines.{joinTo, heardLine, refusalLines, sheetLines, totalsOf}
+use Rattle.sheet.specs.Sheets.{records_of, source_at}
+use Rattle.sheet_lines.specs.Lines.{join_to, heard_line, refusal_lines, lines_of_sheet, totals_of}
 
-join-same : (n : ℕ) (f g : ℕ → List ℕ) → ((k : ℕ) → f k ≡ g k) → joinTo n f ≡ joinTo n g
-unfolding joinTo
-join-same zero f g same = refl
-join-same (suc n) f g same = ap₂ (λ (l m : List ℕ). l ++ m) (join-same n f g same) (same n)
+join_same : (n : ℕ) (f g : ℕ → List ℕ) → ((k : ℕ) → f k ≡ g k) → join_to n f ≡ join_to n g
+unfolding join_to
+join_same zero f g same = refl
+join_same (suc n) f g same = ap₂ (λ (l m : List ℕ). l ++ m) (join_same n f g same) (same n)
 
-module _ (edition : Edition) (s t : Sheet) (sources : (k : ℕ) → sourceAt s k ≡ sourceAt t k) (counts : s.refusals ≡ t.refusals) where
-  lines-alike : sheetLines edition s ≡ sheetLines edition t
-  unfolding sheetLines
-  lines-alike =
+module _ (edition : Edition) (s t : Sheet) (sources : (k : ℕ) → source_at s k ≡ source_at t k) (counts : s.refusals ≡ t.refusals) where
+  lines_alike : lines_of_sheet edition s ≡ lines_of_sheet edition t
+  unfolding lines_of_sheet
+  lines_alike =
       ap₂ (λ (l m : List ℕ). l ++ m)
-      (join-same (recordsOf edition) (λ k. heardLine edition k (sourceIn s.sources k)) (λ k. heardLine edition k (sourceIn t.sources k)) (λ k. ap (heardLine edition k) (sources k)))
-      (ap refusalLines counts)
+      (join_same (records_of edition) (λ k. heard_line edition k (source_in s.sources k)) (λ k. heard_line edition k (source_in t.sources k)) (λ k. ap (heard_line edition k) (sources k)))
+      (ap refusal_lines counts)
 
-  pub totals-alike : (tally : Tally) (cut : Bool) → totalsOf edition s tally cut ≡ totalsOf edition t tally cut
-  unfolding totalsOf
-  totals-alike tally cut = ap (λ (l : List ℕ). l ++ closingOf tally cut) lines-alike
+  pub totals_alike : (tally : Tally) (cut : Bool) → totals_of edition s tally cut ≡ totals_of edition t tally cut
+  unfolding totals_of
+  totals_alike tally cut = ap (λ (l : List ℕ). l ++ closing_of tally cut) lines_alike

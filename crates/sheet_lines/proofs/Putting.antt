@@ -9,78 +9,78 @@ use lib.ListN.{length}
 use borrow.Author.Tests.{lt-ltb, le-ltb}
 use Rattle.text.specs.Text.{ascii, Put}
 use Rattle.text.specs.Forms.{form_of}
-use Rattle.text.proofs.Laid.{put-none, put_then}
+use Rattle.text.proofs.Laid.{put_none, put_then}
 use Rattle.base.specs.declared.Edition.{Edition}
 use Rattle.base.specs.declared.Edition.TheVariants.{Flown, Corrected}
-use Rattle.header.specs.Fields.{radioOf}
+use Rattle.header.specs.Fields.{radio_of}
 use Rattle.lines.specs.declared.Tally.{Tally}
-use Rattle.lines.specs.Lines.{letterOf, closingOf}
+use Rattle.lines.specs.Lines.{letter_of, closing_of}
 use Rattle.source.specs.declared.Lane.{Lane}
 use Rattle.source.specs.declared.Source.{Source}
 use Rattle.source.specs.declared.Display.{Display}
 use Rattle.sheet.specs.declared.Sheet.{Sheet}
-use Rattle.source.specs.Lanes.{framesOf, summedOf}
-use Rattle.sheet_lines.specs.Rooms.{sourceRoom, refusalRoom}
-use Rattle.sheet_lines.specs.Lines.{totalsTitle, laneForm, laneText, sourceOpening, sourceLine, heardLine, refusedFrames, givenLine, sourceLines, refusalLines, sheetLines, totalsOf}
+use Rattle.source.specs.Lanes.{frames_of, summed_of}
+use Rattle.sheet_lines.specs.Rooms.{source_room, refusal_room}
+use Rattle.sheet_lines.specs.Lines.{totals_title, lane_form, lane_text, source_opening, source_line, heard_line, refused_frames, given_line, source_lines, refusal_lines, lines_of_sheet, totals_of}
 
 -- the numbers of a lane
-abbrev pub numbersOf : Lane → List ℕ
-numbersOf lane = lane.frames ∷ lane.repaired ∷ lane.missed ∷ lane.repeats ∷ lane.last ∷ []
+abbrev pub numbers_of : Lane → List ℕ
+numbers_of lane = lane.frames ∷ lane.repaired ∷ lane.missed ∷ lane.repeats ∷ lane.last ∷ []
 
 module _ {l m : List ℕ} {at p : ℕ} where
   -- the first line
-  pub put-title : Put l at (ascii "pass sheet totals\n") m p → Put l at totalsTitle m p
-  unfolding totalsTitle
-  put-title put = put
+  pub put_title : Put l at (ascii "pass sheet totals\n") m p → Put l at totals_title m p
+  unfolding totals_title
+  put_title put = put
 
   -- a lane that was heard, and one that was not
-  pub lane-heard : (name : List ℕ) (lane : Lane) → lane.heard ≡ true → Put l at (form_of (laneForm true) (numbersOf lane) name) m p → Put l at (laneText name lane) m p
-  unfolding laneText
-  lane-heard name lane e put = rw e put
+  pub lane_heard : (name : List ℕ) (lane : Lane) → lane.heard ≡ true → Put l at (form_of (lane_form true) (numbers_of lane) name) m p → Put l at (lane_text name lane) m p
+  unfolding lane_text
+  lane_heard name lane e put = rw e put
 
-  pub lane-none : (name : List ℕ) (lane : Lane) → lane.heard ≡ false → Put l at (form_of (laneForm false) (numbersOf lane) name) m p → Put l at (laneText name lane) m p
-  unfolding laneText
-  lane-none name lane e put = rw e put
+  pub lane_none : (name : List ℕ) (lane : Lane) → lane.heard ≡ false → Put l at (form_of (lane_form false) (numbers_of lane) name) m p → Put l at (lane_text name lane) m p
+  unfolding lane_text
+  lane_none name lane e put = rw e put
 
   -- the opening of a source's line, under either edition
-  pub opening-flown : (edition : Edition) (srcId : ℕ) (s : Source) (d : Display) (letter radio : ℕ) → edition ≡ Flown → d ≡ summedOf s → letter ≡ letterOf srcId → radio ≡ radioOf srcId
-      → Put l at (form_of (ascii "# radio % frames % repaired %") (letter ∷ radio ∷ d.frames ∷ d.repaired ∷ []) []) m p → Put l at (sourceOpening edition srcId s) m p
-  unfolding sourceOpening
-  opening-flown edition srcId s d letter radio e is is-letter is-radio put = rw e (rw (is, is-letter, is-radio) at put)
+  pub opening_flown : (edition : Edition) (srcId : ℕ) (s : Source) (d : Display) (letter radio : ℕ) → edition ≡ Flown → d ≡ summed_of s → letter ≡ letter_of srcId → radio ≡ radio_of srcId
+      → Put l at (form_of (ascii "# radio % frames % repaired %") (letter ∷ radio ∷ d.frames ∷ d.repaired ∷ []) []) m p → Put l at (source_opening edition srcId s) m p
+  unfolding source_opening
+  opening_flown edition srcId s d letter radio e is is-letter is-radio put = rw e (rw (is, is-letter, is-radio) at put)
 
-  pub opening-corrected : (edition : Edition) (srcId : ℕ) (s : Source) (d : Display) → edition ≡ Corrected → d ≡ summedOf s
-      → Put l at (form_of (ascii "source % frames % repaired %") (srcId ∷ d.frames ∷ d.repaired ∷ []) []) m p → Put l at (sourceOpening edition srcId s) m p
-  unfolding sourceOpening
-  opening-corrected edition srcId s d e is put = rw e (rw is at put)
+  pub opening_corrected : (edition : Edition) (srcId : ℕ) (s : Source) (d : Display) → edition ≡ Corrected → d ≡ summed_of s
+      → Put l at (form_of (ascii "source % frames % repaired %") (srcId ∷ d.frames ∷ d.repaired ∷ []) []) m p → Put l at (source_opening edition srcId s) m p
+  unfolding source_opening
+  opening_corrected edition srcId s d e is put = rw e (rw is at put)
 
   -- a source that was heard
-  pub heard-line : (edition : Edition) (srcId : ℕ) (s : Source) (d : Display) → d ≡ summedOf s → 0 < d.frames → Put l at (sourceLine edition srcId s) m p → Put l at (heardLine edition srcId s) m p
-  heard-line edition srcId s d is h put = rw (lt-ltb 0 (framesOf s) (rw is at h)) put
+  pub heard_line_lem : (edition : Edition) (srcId : ℕ) (s : Source) (d : Display) → d ≡ summed_of s → 0 < d.frames → Put l at (source_line edition srcId s) m p → Put l at (heard_line edition srcId s) m p
+  heard_line_lem edition srcId s d is h put = rw (lt-ltb 0 (frames_of s) (rw is at h)) put
 
 -- and one that was not
-pub heard-none : {l : List ℕ} {at : ℕ} (edition : Edition) (srcId : ℕ) (s : Source) (d : Display) → d ≡ summedOf s → d.frames ≤ 0 → at + sourceRoom ≤ length l → Put l at (heardLine edition srcId s) l at
-heard-none edition srcId s d is h room = rw (le-ltb 0 (framesOf s) (rw is at h)) (put-none (omega arith))
+pub heard_none : {l : List ℕ} {at : ℕ} (edition : Edition) (srcId : ℕ) (s : Source) (d : Display) → d ≡ summed_of s → d.frames ≤ 0 → at + source_room ≤ length l → Put l at (heard_line edition srcId s) l at
+heard_none edition srcId s d is h room = rw (le-ltb 0 (frames_of s) (rw is at h)) (put_none (omega arith))
 
 -- so a refusal's number
-pub given-none : {l : List ℕ} {at : ℕ} (number n : ℕ) → n ≤ 0 → at + refusalRoom ≤ length l → Put l at (givenLine number n) l at
-given-none number n h room = rw (le-ltb 0 n h) (put-none (omega arith))
+pub given_none : {l : List ℕ} {at : ℕ} (number n : ℕ) → n ≤ 0 → at + refusal_room ≤ length l → Put l at (given_line number n) l at
+given_none number n h room = rw (le-ltb 0 n h) (put_none (omega arith))
 
-pub given-line : {l m : List ℕ} {at p : ℕ} (number frames : ℕ) → 0 < frames → Put l at (refusedFrames number frames) m p → Put l at (givenLine number frames) m p
-given-line number frames h put = rw (lt-ltb 0 frames h) put
+pub given_line_lem : {l m : List ℕ} {at p : ℕ} (number frames : ℕ) → 0 < frames → Put l at (refused_frames number frames) m p → Put l at (given_line number frames) m p
+given_line_lem number frames h put = rw (lt-ltb 0 frames h) put
 
 -- the parts of a source's line
-pub put-source : {l m n o u : List ℕ} {at p q r v : ℕ} (edition : Edition) (srcId : ℕ) (s : Source)
-    → Put l at (sourceOpening edition srcId s) m p → Put m p (laneText (ascii "caller") s.caller) n q → Put n q (laneText (ascii "responder") s.responder) o r → Put o r (ascii "\n") u v
-    → Put l at (sourceLine edition srcId s) u v
-unfolding sourceLine
-put-source edition srcId s first second third fourth = put_then (put_then (put_then first second) third) fourth
+pub put_source : {l m n o u : List ℕ} {at p q r v : ℕ} (edition : Edition) (srcId : ℕ) (s : Source)
+    → Put l at (source_opening edition srcId s) m p → Put m p (lane_text (ascii "caller") s.caller) n q → Put n q (lane_text (ascii "responder") s.responder) o r → Put o r (ascii "\n") u v
+    → Put l at (source_line edition srcId s) u v
+unfolding source_line
+put_source edition srcId s first second third fourth = put_then (put_then (put_then first second) third) fourth
 
 module _ {l m n : List ℕ} {at p q : ℕ} where
   -- sources, then refusals
-  pub put-sheet : (edition : Edition) (sheet : Sheet) → Put l at (sourceLines edition sheet.sources) m p → Put m p (refusalLines sheet.refusals) n q → Put l at (sheetLines edition sheet) n q
-  unfolding sheetLines
-  put-sheet edition sheet first second = put_then first second
+  pub put_sheet : (edition : Edition) (sheet : Sheet) → Put l at (source_lines edition sheet.sources) m p → Put m p (refusal_lines sheet.refusals) n q → Put l at (lines_of_sheet edition sheet) n q
+  unfolding lines_of_sheet
+  put_sheet edition sheet first second = put_then first second
 
-  pub put-totals : (edition : Edition) (sheet : Sheet) (tally : Tally) (cut : Bool) → Put l at (sheetLines edition sheet) m p → Put m p (closingOf tally cut) n q → Put l at (totalsOf edition sheet tally cut) n q
-  unfolding totalsOf
-  put-totals edition sheet tally cut first second = put_then first second
+  pub put_totals : (edition : Edition) (sheet : Sheet) (tally : Tally) (cut : Bool) → Put l at (lines_of_sheet edition sheet) m p → Put m p (closing_of tally cut) n q → Put l at (totals_of edition sheet tally cut) n q
+  unfolding totals_of
+  put_totals edition sheet tally cut first second = put_then first second

@@ -2,32 +2,32 @@
 -- Assumes nothing.
 use Rattle.std.specs.Prelude.{true, List, [], ℕ, ◌+◌, ◌*◌}
 use Rattle.text.specs.Text.{ascii}
-use Rattle.text.specs.Forms.{roomOf}
-use Rattle.lines.specs.Rooms.{lineRoom}
-use Rattle.source.specs.Counts.{refusalCounts}
-use Rattle.sheet_lines.specs.Lines.{laneForm}
+use Rattle.text.specs.Forms.{room_of}
+use Rattle.lines.specs.Rooms.{line_room}
+use Rattle.source.specs.Counts.{refusal_counts}
+use Rattle.sheet_lines.specs.Lines.{lane_form}
 
 -- a source's line: its opening, and two lanes
-abbrev pub openingRoom : ℕ
-openingRoom = roomOf (ascii "# radio % frames % repaired %") []
+abbrev pub opening_room : ℕ
+opening_room = room_of (ascii "# radio % frames % repaired %") []
 
-abbrev pub laneRoom : List ℕ → ℕ
-laneRoom name = roomOf (laneForm true) name
+abbrev pub lane_room : List ℕ → ℕ
+lane_room name = room_of (lane_form true) name
 
-abbrev pub sourceRoom : ℕ
-sourceRoom = openingRoom + laneRoom (ascii "caller") + laneRoom (ascii "responder") + 1
+abbrev pub source_room : ℕ
+source_room = opening_room + lane_room (ascii "caller") + lane_room (ascii "responder") + 1
 
 -- a refusal's line
-abbrev pub refusalRoom : ℕ
-refusalRoom = roomOf (ascii "refused % frames %\n") []
+abbrev pub refusal_room : ℕ
+refusal_room = room_of (ascii "refused % frames %\n") []
 
 -- the records of the widest sheet
-abbrev pub mostRecords : ℕ
-mostRecords = 128
+abbrev pub most_records : ℕ
+most_records = 128
 
-abbrev pub sheetRoom : ℕ
-sheetRoom = mostRecords * sourceRoom + refusalCounts * refusalRoom
+abbrev pub sheet_room : ℕ
+sheet_room = most_records * source_room + refusal_counts * refusal_room
 
 -- with the last lines
-abbrev pub totalsRoom : ℕ
-totalsRoom = sheetRoom + 2 * lineRoom
+abbrev pub totals_room : ℕ
+totals_room = sheet_room + 2 * line_room

@@ -1,12 +1,12 @@
 // The text of a pass sheet, put into a lent slice at a place. Each function answers the place after what it put.
 ghost use Rattle.std.specs.Prelude.{◌≡◌, ◌+◌, ◌*◌, ◌≤◌, length};
 ghost use Rattle.text.specs.Text.{Put};
-ghost use Rattle.lines.specs.Rooms.{lineRoom};
-ghost use Rattle.source.specs.Counts.{refusalCounts};
-ghost use Rattle.sheet.specs.Sheets.{recordsOf};
+ghost use Rattle.lines.specs.Rooms.{line_room};
+ghost use Rattle.source.specs.Counts.{refusal_counts};
+ghost use Rattle.sheet.specs.Sheets.{records_of};
 ghost use Rattle.wide_sheet.specs.Wide.{held};
-ghost use Rattle.sheet_lines.specs.Lines.{totalsTitle, laneText, sourceOpening, sourceLine, heardLine, givenLine, sourceLines, refusalLines, sheetLines, totalsOf};
-ghost use Rattle.sheet_lines.specs.Rooms.{openingRoom, laneRoom, sourceRoom, refusalRoom, mostRecords, sheetRoom, totalsRoom};
+ghost use Rattle.sheet_lines.specs.Lines.{totals_title, lane_text, source_opening, source_line, heard_line, given_line, source_lines, refusal_lines, lines_of_sheet, totals_of};
+ghost use Rattle.sheet_lines.specs.Rooms.{opening_room, lane_room, source_room, refusal_room, most_records, sheet_room, totals_room};
 
 use base::Edition;
 use lines::Tally;
@@ -15,18 +15,18 @@ use wide_sheet::WideSheet;
 
 // Puts the first line.
 pub fn put_title(out: &mut [u8]) -> usize
-    requires { lineRoom ≤ length out.old }
-    ensures put { Put out.old 0 totalsTitle out.new result }
-    ensures upper_bound { result ≤ lineRoom }
+    requires { line_room ≤ length out.old }
+    ensures put { Put out.old 0 totals_title out.new result }
+    ensures upper_bound { result ≤ line_room }
 {
     text::put_text(out, 0, b"pass sheet totals\n")
 }
 
 // Puts a lane: its counts and its last counter, or `-` where it has none.
 fn put_lane(out: &mut [u8], at: usize, name: &[u8], lane: Lane) -> usize
-    requires { at + laneRoom name.now ≤ length out.old }
-    ensures put { Put out.old at (laneText name.now lane) out.new result }
-    ensures upper_bound { result ≤ at + laneRoom name.now }
+    requires { at + lane_room name.now ≤ length out.old }
+    ensures put { Put out.old at (lane_text name.now lane) out.new result }
+    ensures upper_bound { result ≤ at + lane_room name.now }
 {
     let numbers = [
         lane.frames as u64,
@@ -55,9 +55,9 @@ fn put_lane(out: &mut [u8], at: usize, name: &[u8], lane: Lane) -> usize
 
 // Opens a source's line.
 fn put_opening(out: &mut [u8], at: usize, edition: Edition, src_id: u8, source: Source) -> usize
-    requires { at + openingRoom ≤ length out.old }
-    ensures put { Put out.old at (sourceOpening edition src_id source) out.new result }
-    ensures upper_bound { result ≤ at + openingRoom }
+    requires { at + opening_room ≤ length out.old }
+    ensures put { Put out.old at (source_opening edition src_id source) out.new result }
+    ensures upper_bound { result ≤ at + opening_room }
 {
     let sums = source::summed(source);
     match edition {
@@ -84,9 +84,9 @@ fn put_opening(out: &mut [u8], at: usize, edition: Edition, src_id: u8, source: 
 
 // Puts a source's line, the caller's lane first.
 fn put_source(out: &mut [u8], at: usize, edition: Edition, src_id: u8, source: Source) -> usize
-    requires { at + sourceRoom ≤ length out.old }
-    ensures put { Put out.old at (sourceLine edition src_id source) out.new result }
-    ensures upper_bound { result ≤ at + sourceRoom }
+    requires { at + source_room ≤ length out.old }
+    ensures put { Put out.old at (source_line edition src_id source) out.new result }
+    ensures upper_bound { result ≤ at + source_room }
 {
     let called = source.caller;
     let responded = source.responder;
@@ -98,9 +98,9 @@ fn put_source(out: &mut [u8], at: usize, edition: Edition, src_id: u8, source: S
 
 // Puts a source's line where frames of it were accepted.
 fn put_heard(out: &mut [u8], at: usize, edition: Edition, src_id: u8, source: Source) -> usize
-    requires { at + sourceRoom ≤ length out.old }
-    ensures put { Put out.old at (heardLine edition src_id source) out.new result }
-    ensures upper_bound { result ≤ at + sourceRoom }
+    requires { at + source_room ≤ length out.old }
+    ensures put { Put out.old at (heard_line edition src_id source) out.new result }
+    ensures upper_bound { result ≤ at + source_room }
 {
     let sums = source::summed(source);
     if 0 < sums.frames {
@@ -111,9 +111,9 @@ fn put_heard(out: &mut [u8], at: usize, edition: Edition, src_id: u8, source: So
 
 // Puts how many frames were refused with a number, where there are any.
 fn put_given(out: &mut [u8], at: usize, number: u8, frames: u32) -> usize
-    requires { at + refusalRoom ≤ length out.old }
-    ensures put { Put out.old at (givenLine number frames) out.new result }
-    ensures upper_bound { result ≤ at + refusalRoom }
+    requires { at + refusal_room ≤ length out.old }
+    ensures put { Put out.old at (given_line number frames) out.new result }
+    ensures upper_bound { result ≤ at + refusal_room }
 {
     if 0 < frames {
         return text::put_form(
@@ -129,8 +129,8 @@ fn put_given(out: &mut [u8], at: usize, number: u8, frames: u32) -> usize
 
 // The records of a sheet of an edition.
 fn records_of(edition: Edition) -> usize
-    ensures value { result ≡ recordsOf edition }
-    ensures upper_bound { result ≤ mostRecords }
+    ensures value { result ≡ records_of edition }
+    ensures upper_bound { result ≤ most_records }
 {
     match edition {
         Edition::Flown => sheet::RECORDS,
@@ -140,9 +140,9 @@ fn records_of(edition: Edition) -> usize
 
 // Puts the lines of the sources that were heard. A sheet of the flown edition uses its first eight records.
 fn put_sources(out: &mut [u8], at: usize, edition: Edition, sheet: WideSheet) -> usize
-    requires { at + mostRecords * sourceRoom ≤ length out.old }
-    ensures put { Put out.old at (sourceLines edition sheet.sources) out.new result }
-    ensures upper_bound { result ≤ at + mostRecords * sourceRoom }
+    requires { at + most_records * source_room ≤ length out.old }
+    ensures put { Put out.old at (source_lines edition sheet.sources) out.new result }
+    ensures upper_bound { result ≤ at + most_records * source_room }
 {
     let records = records_of(edition);
     let mut to = at;
@@ -157,9 +157,9 @@ fn put_sources(out: &mut [u8], at: usize, edition: Edition, sheet: WideSheet) ->
 
 // Puts the lines of the refusals that were given.
 fn put_refusals(out: &mut [u8], at: usize, counts: [u32; REFUSAL_COUNTS]) -> usize
-    requires { at + refusalCounts * refusalRoom ≤ length out.old }
-    ensures put { Put out.old at (refusalLines counts) out.new result }
-    ensures upper_bound { result ≤ at + refusalCounts * refusalRoom }
+    requires { at + refusal_counts * refusal_room ≤ length out.old }
+    ensures put { Put out.old at (refusal_lines counts) out.new result }
+    ensures upper_bound { result ≤ at + refusal_counts * refusal_room }
 {
     let mut to = at;
     let mut k = 0;
@@ -173,9 +173,9 @@ fn put_refusals(out: &mut [u8], at: usize, counts: [u32; REFUSAL_COUNTS]) -> usi
 
 // Puts the lines of a sheet.
 fn put_sheet(out: &mut [u8], at: usize, edition: Edition, sheet: WideSheet) -> usize
-    requires { at + sheetRoom ≤ length out.old }
-    ensures put { Put out.old at (sheetLines edition (held sheet)) out.new result }
-    ensures upper_bound { result ≤ at + sheetRoom }
+    requires { at + sheet_room ≤ length out.old }
+    ensures put { Put out.old at (lines_of_sheet edition (held sheet)) out.new result }
+    ensures upper_bound { result ≤ at + sheet_room }
 {
     let a = put_sources(out, at, edition, sheet);
     let counts = sheet.refusals;
@@ -190,8 +190,8 @@ pub fn put_totals(
     tally: Tally,
     cut: bool,
 ) -> usize
-    requires { totalsRoom ≤ length out.old }
-    ensures { Put out.old 0 (totalsOf edition (held sheet) tally cut) out.new result }
+    requires { totals_room ≤ length out.old }
+    ensures { Put out.old 0 (totals_of edition (held sheet) tally cut) out.new result }
 {
     let a = put_sheet(out, 0, edition, sheet);
     lines::put_closing(out, a, tally, cut)

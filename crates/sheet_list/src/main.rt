@@ -2,10 +2,10 @@
 // words after its name are those of `options`.
 ghost use Rattle.std.specs.Prelude.{◌≡◌, ◌≤◌, length};
 ghost use Rattle.word.specs.Repairs.{syndromes};
-ghost use Rattle.air.specs.Air.{payloadLimit};
-ghost use Rattle.record.specs.Records.{recordSize};
-ghost use Rattle.frame.specs.Recorded.{listedRules};
-ghost use Rattle.sheet_lines.specs.Rooms.{totalsRoom};
+ghost use Rattle.air.specs.Air.{payload_limit};
+ghost use Rattle.record.specs.Records.{record_size};
+ghost use Rattle.frame.specs.Recorded.{listed_rules};
+ghost use Rattle.sheet_lines.specs.Rooms.{totals_room};
 
 use air::MOST_FLIPS;
 use base::Edition;
@@ -18,9 +18,9 @@ use word::table::TABLE_ROWS;
 // The turns are counted down from a number that no run uses up: each but the last reads a byte.
 fn list(table: &[u16; TABLE_ROWS], rules: Rules, buf: &mut [u8], out: &mut [u8])
     requires table_value { table.now ≡ syndromes }
-    requires rules_value { rules ≡ listedRules rules.edition }
-    requires payload_limit_in_bounds { recordSize payloadLimit ≤ length buf.old }
-    requires totals_room_in_bounds { totalsRoom ≤ length out.old }
+    requires rules_value { rules ≡ listed_rules rules.edition }
+    requires payload_limit_in_bounds { record_size payload_limit ≤ length buf.old }
+    requires totals_room_in_bounds { totals_room ≤ length out.old }
 {
     let opened = sheet_listing::open(out);
     let title = opened.to;

@@ -7,43 +7,43 @@ use mathlib.Core.List.{List, [], ◌++◌, flatten}
 use Prim.Native.Nat.{ℕ}
 use lib.ListN.{length, take}
 use Rattle.header.specs.declared.Rules.{Rules}
-use Rattle.walk.specs.Walks.{Closed, cutWith, closedBy, toldOf, walk_of}
-use Rattle.walk.proofs.Feeding.{fed-whole}
-use Rattle.record.proofs.Walking.{cut-settled}
-use Rattle.sheet.specs.Sheets.{fullSheet}
-use Rattle.sheet.specs.Histories.{countAll}
+use Rattle.walk.specs.Walks.{Closed, cut_with, closed_by, told_of, walk_of}
+use Rattle.walk.proofs.Feeding.{fed_whole}
+use Rattle.record.proofs.Walking.{cut_settled}
+use Rattle.sheet.specs.Sheets.{full_sheet}
+use Rattle.sheet.specs.Histories.{count_all}
 use Rattle.lines.specs.declared.Tally.{Tally}
-use Rattle.lines.specs.Tallies.{nothingHeard}
-use Rattle.listing.specs.Listing.{listWalk}
-use Rattle.listing.specs.Offers.{framesIn}
-use Rattle.listing.proofs.SheetListing.{sheet-tally}
-use Rattle.sheet_lines.specs.Lines.{totalsTitle, totalsOf}
-use Rattle.sheet_lines.proofs.Alike.{totals-alike}
-use Rattle.sheet_listing.specs.Sheets.{grownFrom, sheetTextOf}
-use Rattle.sheet_listing.specs.Pieces.{blankSheet, nothingCounted, totalsFull, totalsIn, sheetWalk, totalsText, streamedSheet}
-use Rattle.sheet_listing.proofs.TakenFrames.{sheet-sound, takenIn, AsListed, as-listed}
-use Rattle.sheet_listing.proofs.Grown.{grown-alike}
+use Rattle.lines.specs.Tallies.{nothing_heard}
+use Rattle.listing.specs.Listing.{list_walk}
+use Rattle.listing.specs.Offers.{frames_in}
+use Rattle.listing.proofs.SheetListing.{sheet_tally}
+use Rattle.sheet_lines.specs.Lines.{totals_title, totals_of}
+use Rattle.sheet_lines.proofs.Alike.{totals_alike}
+use Rattle.sheet_listing.specs.Sheets.{grown_from, sheet_text_of}
+use Rattle.sheet_listing.specs.Pieces.{blank_sheet, nothing_counted, totals_full, totals_in, sheet_walk, totals_text, streamed_sheet}
+use Rattle.sheet_listing.proofs.TakenFrames.{sheet_sound, taken_in, AsListed, as_listed}
+use Rattle.sheet_listing.proofs.Grown.{grown_alike}
 
 -- a new tally takes as many frames as a sheet
-taken-first : (rules : Rules) (input : List ℕ) → takenIn rules nothingHeard input ≡ take fullSheet (framesIn rules input)
-unfolding takenIn
-taken-first rules input = refl
+taken_first : (rules : Rules) (input : List ℕ) → taken_in rules nothing_heard input ≡ take full_sheet (frames_in rules input)
+unfolding taken_in
+taken_first rules input = refl
 
 module _ (rules : Rules) where
-  told-whole : (input : List ℕ) → totalsTitle ++ (toldOf (closedBy (totalsText rules)) (walk_of (sheetWalk rules) nothingCounted input)).text ≡ sheetTextOf rules input
-  unfolding sheetTextOf
-  told-whole input =
-      let w : AsListed rules nothingCounted input = as-listed rules nothingCounted input in
-      let so = grown-alike rules input in
-      let cut : Bool = cutWith (length (walk_of (listWalk rules) nothingHeard input).rest) in
-      ap (λ (text : List ℕ). totalsTitle ++ text)
-      (rw (w.text, w.sheet, w.tally, w.rest, taken-first rules input)
-      (totals-alike rules.edition (countAll blankSheet (take fullSheet (framesIn rules input))) (grownFrom rules input) so.sources so.counts (walk_of (listWalk rules) nothingHeard input).state cut
-      ∙ ap (λ (t : Tally). totalsOf rules.edition (grownFrom rules input) t cut) (sheet-tally rules input)))
+  told_whole : (input : List ℕ) → totals_title ++ (told_of (closed_by (totals_text rules)) (walk_of (sheet_walk rules) nothing_counted input)).text ≡ sheet_text_of rules input
+  unfolding sheet_text_of
+  told_whole input =
+      let w : AsListed rules nothing_counted input = as_listed rules nothing_counted input in
+      let so = grown_alike rules input in
+      let cut : Bool = cut_with (length (walk_of (list_walk rules) nothing_heard input).rest) in
+      ap (λ (text : List ℕ). totals_title ++ text)
+      (rw (w.text, w.sheet, w.tally, w.rest, taken_first rules input)
+      (totals_alike rules.edition (count_all blank_sheet (take full_sheet (frames_in rules input))) (grown_from rules input) so.sources so.counts (walk_of (list_walk rules) nothing_heard input).state cut
+      ∙ ap (λ (t : Tally). totals_of rules.edition (grown_from rules input) t cut) (sheet_tally rules input)))
 
-  pub whole-sheet : (pieces : List (List ℕ)) → streamedSheet rules pieces ≡ sheetTextOf rules (flatten pieces)
-  unfolding streamedSheet
-  whole-sheet pieces =
-      ap (λ (c : Closed (Unit {0})). totalsTitle ++ c.text)
-      (fed-whole (sheetWalk rules) (sheet-sound rules) (closedBy (totalsText rules)) (cut-settled totalsFull (totalsIn rules) (λ s n l. []) (totalsText rules)) nothingCounted pieces)
-      ∙ told-whole (flatten pieces)
+  pub whole_sheet : (pieces : List (List ℕ)) → streamed_sheet rules pieces ≡ sheet_text_of rules (flatten pieces)
+  unfolding streamed_sheet
+  whole_sheet pieces =
+      ap (λ (c : Closed (Unit {0})). totals_title ++ c.text)
+      (fed_whole (sheet_walk rules) (sheet_sound rules) (closed_by (totals_text rules)) (cut_settled totals_full (totals_in rules) (λ s n l. []) (totals_text rules)) nothing_counted pieces)
+      ∙ told_whole (flatten pieces)

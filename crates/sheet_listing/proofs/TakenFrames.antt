@@ -12,87 +12,87 @@ use Rattle.header.specs.declared.Answer.{Answer}
 use Rattle.header.specs.declared.Answer.TheVariants.{Accepted, Refused}
 use Rattle.frame.specs.Frames.{Frame, frame_of}
 use Rattle.walk.specs.Walks.{whole, Ended, walk_of}
-use Rattle.walk.proofs.Walking.{Sound, Stopped, halted, short, walk-stops, walk-takes, by-items}
+use Rattle.walk.proofs.Walking.{Sound, Stopped, halted, short, walk_stops, walk_takes, by_items}
 use Rattle.record.specs.declared.Cut.TheVariants.{Record}
 use Rattle.record.specs.declared.Ending.{Ending}
-use Rattle.record.specs.Records.{recordSize, cut_of}
-use Rattle.record.proofs.Stays.{air-stays, payload-stays}
-use Rattle.record.proofs.Walking.{record-sound, front-whole, Halts, filled, long, early, halts}
-use Rattle.sheet.specs.Sheets.{fullSheet}
-use Rattle.sheet.specs.Histories.{countAll}
+use Rattle.record.specs.Records.{record_size, cut_of}
+use Rattle.record.proofs.Stays.{air_stays, payload_stays}
+use Rattle.record.proofs.Walking.{record_sound, front_whole, Halts, filled, long, early, halts}
+use Rattle.sheet.specs.Sheets.{full_sheet}
+use Rattle.sheet.specs.Histories.{count_all}
 use Rattle.lines.specs.declared.Tally.{Tally}
-use Rattle.lines.specs.Tallies.{total_of, tallyAfter}
-use Rattle.frame.specs.Recorded.{frameIn}
-use Rattle.listing.specs.Listing.{fullAt, tallyIn, listWalk}
-use Rattle.listing.specs.Offers.{framesIn}
-use Rattle.listing.proofs.Streaming.{list-sound}
-use Rattle.listing.proofs.Frames.{frames-more, frames-long, frames-short}
-use Rattle.sheet_listing.specs.Pieces.{Totals, totalsFull, totalsIn, sheetWalk}
+use Rattle.lines.specs.Tallies.{total_of, tally_after}
+use Rattle.frame.specs.Recorded.{frame_in}
+use Rattle.listing.specs.Listing.{full_at, tally_in, list_walk}
+use Rattle.listing.specs.Offers.{frames_in}
+use Rattle.listing.proofs.Streaming.{list_sound}
+use Rattle.listing.proofs.Frames.{frames_more, frames_long, frames_short}
+use Rattle.sheet_listing.specs.Pieces.{Totals, totals_full, totals_in, sheet_walk}
 
 take_none : (k : ℕ) → ◌≡◌ {A = List Frame} (take k []) []
 take_none zero = refl
 take_none (suc k) = refl
 
 -- an answer adds one to the total
-pub total-after : (tally : Tally) (a : Answer) → total_of (tallyAfter tally a) ≡ total_of tally + 1
-total-after tally (Accepted h flips) = omega arith
-total-after tally (Refused why) = omega arith
+pub total_after : (tally : Tally) (a : Answer) → total_of (tally_after tally a) ≡ total_of tally + 1
+total_after tally (Accepted h flips) = omega arith
+total_after tally (Refused why) = omega arith
 
 module _ (rules : Rules) where
-  pub sheet-sound : Sound (sheetWalk rules)
-  sheet-sound = record-sound totalsFull (totalsIn rules) (λ s n l. []) (record {
-    next-same = λ s l f n e. rw (air-stays l f n e, payload-stays l f n e);
+  pub sheet_sound : Sound (sheet_walk rules)
+  sheet_sound = record_sound totals_full (totals_in rules) (λ s n l. []) (record {
+    next_same = λ s l f n e. rw (air_stays l f n e, payload_stays l f n e);
     text_same = λ s l f n e. refl;
   })
 
   -- the frames of some bytes that are counted after so many: as many as a sheet still takes
-  unfoldable pub takenIn : Tally → List ℕ → List Frame
-  takenIn tally l = take (fullSheet - total_of tally) (framesIn rules l)
+  unfoldable pub taken_in : Tally → List ℕ → List Frame
+  taken_in tally l = take (full_sheet - total_of tally) (frames_in rules l)
 
-  taken_more : (tally : Tally) (l : List ℕ) (n : ℕ) → cut_of l ≡ Record n → fullAt tally ≡ false
-      → takenIn tally l ≡ frameIn rules n l ∷ takenIn (tallyIn rules tally n l) (drop (recordSize n) l)
-  unfolding takenIn
+  taken_more : (tally : Tally) (l : List ℕ) (n : ℕ) → cut_of l ≡ Record n → full_at tally ≡ false
+      → taken_in tally l ≡ frame_in rules n l ∷ taken_in (tally_in rules tally n l) (drop (record_size n) l)
+  unfolding taken_in
   taken_more tally l n e g =
-      let room : total_of tally < fullSheet = leb-false fullSheet (total_of tally) g in
-      let next : total_of (tallyIn rules tally n l) ≡ total_of tally + 1 = total-after tally (frame_of (frameIn rules n l)) in
-      let one : fullSheet - total_of tally ≡ suc (fullSheet - total_of (tallyIn rules tally n l)) = omega arith in
-      ap₂ (λ (k : ℕ) (fs : List Frame). take k fs) one (frames-more rules l n e)
+      let room : total_of tally < full_sheet = leb-false full_sheet (total_of tally) g in
+      let next : total_of (tally_in rules tally n l) ≡ total_of tally + 1 = total_after tally (frame_of (frame_in rules n l)) in
+      let one : full_sheet - total_of tally ≡ suc (full_sheet - total_of (tally_in rules tally n l)) = omega arith in
+      ap₂ (λ (k : ℕ) (fs : List Frame). take k fs) one (frames_more rules l n e)
 
-  taken_none : (tally : Tally) (l : List ℕ) (ended : Ended Ending) → Halts (fullAt tally) l ended → takenIn tally l ≡ []
-  unfolding takenIn
+  taken_none : (tally : Tally) (l : List ℕ) (ended : Ended Ending) → Halts (full_at tally) l ended → taken_in tally l ≡ []
+  unfolding taken_in
   taken_none tally l ended (filled {n} e g) =
-      let none : fullSheet - total_of tally ≡ 0 = omega (arith, leb-true fullSheet (total_of tally) g) in
-      ap (λ (k : ℕ). take k (framesIn rules l)) none
-  taken_none tally l ended (long e) = ap (take (fullSheet - total_of tally)) (frames-long rules l e) ∙ take_none (fullSheet - total_of tally)
-  taken_none tally l ended (early e) = ap (take (fullSheet - total_of tally)) (frames-short rules l e) ∙ take_none (fullSheet - total_of tally)
+      let none : full_sheet - total_of tally ≡ 0 = omega (arith, leb-true full_sheet (total_of tally) g) in
+      ap (λ (k : ℕ). take k (frames_in rules l)) none
+  taken_none tally l ended (long e) = ap (take (full_sheet - total_of tally)) (frames_long rules l e) ∙ take_none (full_sheet - total_of tally)
+  taken_none tally l ended (early e) = ap (take (full_sheet - total_of tally)) (frames_short rules l e) ∙ take_none (full_sheet - total_of tally)
 
   pub record AsListed (s : Totals) (l : List ℕ) : Type 0 where
-    pub sheet : (walk_of (sheetWalk rules) s l).state.sheet ≡ countAll s.sheet (takenIn s.tally l)
-    pub tally : (walk_of (sheetWalk rules) s l).state.tally ≡ (walk_of (listWalk rules) s.tally l).state
-    pub text : (walk_of (sheetWalk rules) s l).text ≡ []
-    pub rest : (walk_of (sheetWalk rules) s l).rest ≡ (walk_of (listWalk rules) s.tally l).rest
+    pub sheet : (walk_of (sheet_walk rules) s l).state.sheet ≡ count_all s.sheet (taken_in s.tally l)
+    pub tally : (walk_of (sheet_walk rules) s l).state.tally ≡ (walk_of (list_walk rules) s.tally l).state
+    pub text : (walk_of (sheet_walk rules) s l).text ≡ []
+    pub rest : (walk_of (sheet_walk rules) s l).rest ≡ (walk_of (list_walk rules) s.tally l).rest
 
   -- both walks stop at the same record
-  list-stopped : (s : Totals) (l : List ℕ) (ended : Ended Ending) → Stopped (sheetWalk rules) s l ended → Stopped (listWalk rules) s.tally l ended
-  list-stopped s l ended (halted e) = halted e
-  list-stopped s l ended (short e) = short e
+  list_stopped : (s : Totals) (l : List ℕ) (ended : Ended Ending) → Stopped (sheet_walk rules) s l ended → Stopped (list_walk rules) s.tally l ended
+  list_stopped s l ended (halted e) = halted e
+  list_stopped s l ended (short e) = short e
 
-  stops : (s : Totals) (l : List ℕ) (ended : Ended Ending) → Stopped (sheetWalk rules) s l ended → AsListed s l
+  stops : (s : Totals) (l : List ℕ) (ended : Ended Ending) → Stopped (sheet_walk rules) s l ended → AsListed s l
   stops s l ended over =
-      let here = walk-stops (sheetWalk rules) sheet-sound s l ended over in
-      let there = walk-stops (listWalk rules) (list-sound rules) s.tally l ended (list-stopped s l ended over) in
+      let here = walk_stops (sheet_walk rules) sheet_sound s l ended over in
+      let there = walk_stops (list_walk rules) (list_sound rules) s.tally l ended (list_stopped s l ended over) in
       record {
-        sheet = rw (here, taken_none s.tally l ended (halts totalsFull (totalsIn rules) (λ t n m. []) s l ended over));
+        sheet = rw (here, taken_none s.tally l ended (halts totals_full (totals_in rules) (λ t n m. []) s l ended over));
         tally = rw (here, there);
         text = rw here;
         rest = rw (here, there);
       }
 
-  takes : (s : Totals) (l : List ℕ) (n : ℕ) → (sheetWalk rules).cut s l ≡ whole n → AsListed (totalsIn rules s n l) (drop (recordSize n) l) → AsListed s l
+  takes : (s : Totals) (l : List ℕ) (n : ℕ) → (sheet_walk rules).cut s l ≡ whole n → AsListed (totals_in rules s n l) (drop (record_size n) l) → AsListed s l
   takes s l n e more =
-      let here = walk-takes (sheetWalk rules) sheet-sound s l n e in
-      let there = walk-takes (listWalk rules) (list-sound rules) s.tally l n e in
-      let front = front-whole (totalsFull s) l n e in
+      let here = walk_takes (sheet_walk rules) sheet_sound s l n e in
+      let there = walk_takes (list_walk rules) (list_sound rules) s.tally l n e in
+      let front = front_whole (totals_full s) l n e in
       record {
         sheet = rw (here, taken_more s.tally l n front.0 front.1) more.sheet;
         tally = rw (here, there) more.tally;
@@ -100,5 +100,5 @@ module _ (rules : Rules) where
         rest = rw (here, there) more.rest;
       }
 
-  pub as-listed : (s : Totals) (l : List ℕ) → AsListed s l
-  as-listed = by-items (sheetWalk rules) sheet-sound AsListed stops takes
+  pub as_listed : (s : Totals) (l : List ℕ) → AsListed s l
+  as_listed = by_items (sheet_walk rules) sheet_sound AsListed stops takes

@@ -4,16 +4,16 @@ use Rattle.std.specs.Prelude.{Bool, List, [], ◌++◌, ℕ}
 use Rattle.base.specs.declared.Edition.TheVariants.{Corrected}
 use Rattle.header.specs.declared.Rules.{Rules}
 use Rattle.frame.specs.Frames.{frame_of}
-use Rattle.walk.specs.Walks.{Walk, closedBy, fedOf}
+use Rattle.walk.specs.Walks.{Walk, closed_by, fed_of}
 use Rattle.record.specs.declared.Ending.{Ending}
-use Rattle.record.specs.Walks.{recordWalk}
+use Rattle.record.specs.Walks.{record_walk}
 use Rattle.sheet.specs.declared.Sheet.{Sheet}
-use Rattle.sheet.specs.Sheets.{newSheet, countedOf}
+use Rattle.sheet.specs.Sheets.{new_sheet, counted_of}
 use Rattle.lines.specs.declared.Tally.{Tally}
-use Rattle.lines.specs.Tallies.{nothingHeard}
-use Rattle.frame.specs.Recorded.{frameIn}
-use Rattle.listing.specs.Listing.{fullAt, tallyIn}
-use Rattle.sheet_lines.specs.Lines.{totalsTitle, totalsOf}
+use Rattle.lines.specs.Tallies.{nothing_heard}
+use Rattle.frame.specs.Recorded.{frame_in}
+use Rattle.listing.specs.Listing.{full_at, tally_in}
+use Rattle.sheet_lines.specs.Lines.{totals_title, totals_of}
 
 -- what was counted of some frames
 pub record Totals : Type 0 where
@@ -21,27 +21,27 @@ pub record Totals : Type 0 where
   pub tally : Tally
 
 -- under either edition the counts stand on a sheet with a record for every SrcId; the flown edition uses the first eight
-abbrev pub blankSheet : Sheet
-blankSheet = newSheet Corrected
+abbrev pub blank_sheet : Sheet
+blank_sheet = new_sheet Corrected
 
-abbrev pub nothingCounted : Totals
-nothingCounted = record { sheet = blankSheet; tally = nothingHeard }
+abbrev pub nothing_counted : Totals
+nothing_counted = record { sheet = blank_sheet; tally = nothing_heard }
 
 -- as the listing, a sheet takes no record where it is full
-abbrev pub totalsFull : Totals → Bool
-totalsFull s = fullAt s.tally
+abbrev pub totals_full : Totals → Bool
+totals_full s = full_at s.tally
 
 module _ (rules : Rules) where
   -- after the record at the front, which has n payload bytes
-  abbrev pub totalsIn : Totals → ℕ → List ℕ → Totals
-  totalsIn s n l = record { sheet = countedOf s.sheet (frame_of (frameIn rules n l)); tally = tallyIn rules s.tally n l }
+  abbrev pub totals_in : Totals → ℕ → List ℕ → Totals
+  totals_in s n l = record { sheet = counted_of s.sheet (frame_of (frame_in rules n l)); tally = tally_in rules s.tally n l }
 
   -- records one after the other: each is counted, and has no text
-  abbrev pub sheetWalk : Walk Totals ℕ Ending
-  sheetWalk = recordWalk totalsFull totalsIn (λ s n l. [])
+  abbrev pub sheet_walk : Walk Totals ℕ Ending
+  sheet_walk = record_walk totals_full totals_in (λ s n l. [])
 
-  abbrev pub totalsText : Totals → Bool → List ℕ
-  totalsText s cut = totalsOf rules.edition s.sheet s.tally cut
+  abbrev pub totals_text : Totals → Bool → List ℕ
+  totals_text s cut = totals_of rules.edition s.sheet s.tally cut
 
-  unfoldable pub streamedSheet : List (List ℕ) → List ℕ
-  streamedSheet pieces = totalsTitle ++ (fedOf sheetWalk (closedBy totalsText) nothingCounted [] pieces).text
+  unfoldable pub streamed_sheet : List (List ℕ) → List ℕ
+  streamed_sheet pieces = totals_title ++ (fed_of sheet_walk (closed_by totals_text) nothing_counted [] pieces).text

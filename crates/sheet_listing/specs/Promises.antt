@@ -10,54 +10,54 @@ use Rattle.walk.specs.Walks.{walk_of}
 use Rattle.walk.specs.Moves.{Moved}
 use Rattle.record.specs.Walks.{ended_as}
 use Rattle.source.specs.declared.Source.{Source}
-use Rattle.source.specs.Lanes.{recordOf, hearOf}
-use Rattle.source.specs.Counts.{countsAfter}
+use Rattle.source.specs.Lanes.{record_of, hear_of}
+use Rattle.source.specs.Counts.{counts_after}
 use Rattle.wide_sheet.specs.declared.WideSheet.{WideSheet}
 use Rattle.wide_sheet.specs.Wide.{held}
 use Rattle.lines.specs.declared.Tally.{Tally}
-use Rattle.lines.specs.Tallies.{nothingHeard}
-use Rattle.frame.specs.Recorded.{frameIn}
-use Rattle.listing.specs.Listing.{tallyIn}
-use Rattle.sheet_lines.specs.Lines.{totalsTitle}
+use Rattle.lines.specs.Tallies.{nothing_heard}
+use Rattle.frame.specs.Recorded.{frame_in}
+use Rattle.listing.specs.Listing.{tally_in}
+use Rattle.sheet_lines.specs.Lines.{totals_title}
 use Rattle.sheet_listing.specs.declared.Opened.{Opened}
 use Rattle.sheet_listing.specs.declared.Taken.{Taken}
 use Rattle.sheet_listing.specs.declared.Counted.{Counted}
-use Rattle.sheet_listing.specs.Pieces.{Totals, blankSheet, sheetWalk}
+use Rattle.sheet_listing.specs.Pieces.{Totals, blank_sheet, sheet_walk}
 
 -- the place of the record that an answer may change, that record after it, and the counts of refusals after it: an accepted frame changes its
 -- source's record, a refused one a count
-abbrev pub recordIn : Answer → ℕ
-recordIn (Accepted h flips) = recordOf h
-recordIn (Refused why) = 0
+abbrev pub record_in : Answer → ℕ
+record_in (Accepted h flips) = record_of h
+record_in (Refused why) = 0
 
-abbrev pub heardBy : Source → Answer → Source
-heardBy source (Accepted h flips) = hearOf source h flips
-heardBy source (Refused why) = source
+abbrev pub heard_by : Source → Answer → Source
+heard_by source (Accepted h flips) = hear_of source h flips
+heard_by source (Refused why) = source
 
-abbrev pub refusedBy : List ℕ → Answer → List ℕ
-refusedBy counts (Accepted h flips) = counts
-refusedBy counts (Refused why) = countsAfter counts why.number
+abbrev pub refused_by : List ℕ → Answer → List ℕ
+refused_by counts (Accepted h flips) = counts
+refused_by counts (Refused why) = counts_after counts why.number
 
 -- a sheet was opened: it starts with nothing counted, after its title
 pub record Opens (before after : List ℕ) (r : Opened) : Type 0 where
-  pub sheet-is : held r.sheet ≡ blankSheet
-  pub tally-is : r.tally ≡ nothingHeard
-  pub line : Put before 0 totalsTitle after r.to
+  pub sheet_is : held r.sheet ≡ blank_sheet
+  pub tally_is : r.tally ≡ nothing_heard
+  pub line : Put before 0 totals_title after r.to
 
 -- a record with n payload bytes was read: its answer, and the tally after it
 pub record Takes (rules : Rules) (tally : Tally) (l : List ℕ) (n : ℕ) (r : Taken) : Type 0 where
-  pub answer-is : r.answer ≡ frame_of (frameIn rules n l)
-  pub tally-is : r.tally ≡ tallyIn rules tally n l
+  pub answer_is : r.answer ≡ frame_of (frame_in rules n l)
+  pub tally_is : r.tally ≡ tally_in rules tally n l
 
 -- a sheet and a tally, as the code holds them
-abbrev pub heldTotals : WideSheet → Tally → Totals
-heldTotals sheet tally = record { sheet = held sheet; tally = tally }
+abbrev pub held_totals : WideSheet → Tally → Totals
+held_totals sheet tally = record { sheet = held sheet; tally = tally }
 
 -- some bytes were walked over: the sheet and the tally after their records, how many bytes are left, and how it ended
 pub record Walked (rules : Rules) (start : WideSheet) (tally : Tally) (l : List ℕ) (r : Counted) : Type 0 where
-  pub totals-are : heldTotals r.sheet r.tally ≡ (walk_of (sheetWalk rules) (heldTotals start tally) l).state
-  pub left_is : r.left ≡ length (walk_of (sheetWalk rules) (heldTotals start tally) l).rest
-  pub ended_is : ended_as r.ending ≡ (walk_of (sheetWalk rules) (heldTotals start tally) l).ended
+  pub totals_are : held_totals r.sheet r.tally ≡ (walk_of (sheet_walk rules) (held_totals start tally) l).state
+  pub left_is : r.left ≡ length (walk_of (sheet_walk rules) (held_totals start tally) l).rest
+  pub ended_is : ended_as r.ending ≡ (walk_of (sheet_walk rules) (held_totals start tally) l).ended
 
 -- the first `end` bytes of a buffer were walked over, and what is left of them was moved to its front
 pub record Turns (rules : Rules) (start : WideSheet) (tally : Tally) (buf : List ℕ) (end : ℕ) (buf' : List ℕ) (r : Counted) : Type 0 where

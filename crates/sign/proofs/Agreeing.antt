@@ -12,12 +12,12 @@ use borrow.Author.Tests.{eq-eqb, ne_eqb, eqb-true, eqb-false, not-false}
 use Rattle.base.specs.declared.Edition.{Edition}
 use Rattle.base.specs.declared.Edition.TheVariants.{Flown, Corrected}
 use Rattle.base.specs.Lists.{lowest}
-use Rattle.base.proofs.Tabulate.{tabulate-length, tabulate-at, tabulate-is, tabulate-all}
-use Rattle.base.proofs.Lowest.{Passed, starts, goes_on, stops, ends, lowest-is, lowest-none}
-use Rattle.air.specs.Air.{firstNoBit}
-use Rattle.air.proofs.Bits.{no-bit-none}
-use Rattle.sign.specs.CallSigns.{callSign, sign_bit, signWidth, sign_of}
-use Rattle.sign.specs.Calls.{Call, absent, given, call_of, looksAt, lookedAt, faultAt, firstOther, otherAt, Agrees}
+use Rattle.base.proofs.Tabulate.{tabulate_length, tabulate_at, tabulate_is, tabulate_all}
+use Rattle.base.proofs.Lowest.{Passed, starts, goes_on, stops, ends, lowest_is, lowest_none}
+use Rattle.air.specs.Air.{first_no_bit}
+use Rattle.air.proofs.Bits.{no_bit_none}
+use Rattle.sign.specs.CallSigns.{call_sign, sign_bit, sign_width, sign_of}
+use Rattle.sign.specs.Calls.{Call, absent, given, call_of, looks_at, looked_at, fault_at, first_other, other_at, Agrees}
 
 pub past_end : (call : List ℕ) (n : ℕ) → length call ≤ n → 0 ≡ get_or call n 0
 past_end call n h = sym (get_or-eq_default call 0 {n = n} h)
@@ -28,89 +28,89 @@ module _ (call : List ℕ) (satellite : ℕ) where
 
   -- THE LOOP: the elements before n are the call sign's
   abbrev pub Same : ℕ → Type 0
-  Same n = Passed signWidth other n
+  Same n = Passed sign_width other n
 
-  pub same-starts : Same 0
-  same-starts = starts signWidth other
+  pub same_starts : Same 0
+  same_starts = starts sign_width other
 
-  module _ (n : ℕ) (so : Same n) (x bit : ℕ) (found : x ≡ get_or call n 0) (is : bit ≡ sign_bit satellite n) (h : n < signWidth) where
-    pub same-goes-on : x ≡ bit → Same (n + 1)
-    same-goes-on e = goes_on signWidth other n so h (rw (← found, ← is, eq-eqb x bit e))
+  module _ (n : ℕ) (so : Same n) (x bit : ℕ) (found : x ≡ get_or call n 0) (is : bit ≡ sign_bit satellite n) (h : n < sign_width) where
+    pub same_goes_on : x ≡ bit → Same (n + 1)
+    same_goes_on e = goes_on sign_width other n so h (rw (← found, ← is, eq-eqb x bit e))
 
-    pub same-stops : (x ≡ bit → ⊥) → n ≡ firstOther call satellite
-    unfolding firstOther
-    same-stops e = stops signWidth other n so h (rw (← found, ← is, ne_eqb x bit e))
+    pub same_stops : (x ≡ bit → ⊥) → n ≡ first_other call satellite
+    unfolding first_other
+    same_stops e = stops sign_width other n so h (rw (← found, ← is, ne_eqb x bit e))
 
-  pub same_ends : (n : ℕ) → Same n → signWidth ≤ n → n ≡ firstOther call satellite
-  unfolding firstOther
-  same_ends n so h = ends signWidth other n so h
+  pub same_ends : (n : ℕ) → Same n → sign_width ≤ n → n ≡ first_other call satellite
+  unfolding first_other
+  same_ends n so h = ends sign_width other n so h
 
   -- no place differs: the elements are the call sign's
-  none-differs : length call ≡ signWidth → signWidth ≤ firstOther call satellite → call ≡ sign_of satellite
-  unfolding firstOther sign_of
-  none-differs long h =
+  none_differs : length call ≡ sign_width → sign_width ≤ first_other call satellite → call ≡ sign_of satellite
+  unfolding first_other sign_of
+  none_differs long h =
       sym
-      (tabulate-is (sign_bit satellite) 0 signWidth call long
-      (λ n below. sym (eqb-true (get_or call n 0) (sign_bit satellite n) (not-false (eqb (get_or call n 0) (sign_bit satellite n)) ((lowest-is other signWidth).before n (omega arith))))))
+      (tabulate_is (sign_bit satellite) 0 sign_width call long
+      (λ n below. sym (eqb-true (get_or call n 0) (sign_bit satellite n) (not-false (eqb (get_or call n 0) (sign_bit satellite n)) ((lowest_is other sign_width).before n (omega arith))))))
 
-  agreeing : call ≡ sign_of satellite → firstOther call satellite ≡ signWidth
-  unfolding firstOther sign_of
+  agreeing : call ≡ sign_of satellite → first_other call satellite ≡ sign_width
+  unfolding first_other sign_of
   agreeing is =
-      lowest-none signWidth other
-      (λ n below. let same : get_or call n 0 ≡ sign_bit satellite n = rw is (tabulate-at (sign_bit satellite) 0 signWidth n below) in rw (eq-eqb (get_or call n 0) (sign_bit satellite n) same))
+      lowest_none sign_width other
+      (λ n below. let same : get_or call n 0 ≡ sign_bit satellite n = rw is (tabulate_at (sign_bit satellite) 0 sign_width n below) in rw (eq-eqb (get_or call n 0) (sign_bit satellite n) same))
 
 -- a call sign has 48 elements, each 0 or 1
-pub sign-long : (satellite : ℕ) → length (sign_of satellite) ≡ signWidth
+pub sign_long : (satellite : ℕ) → length (sign_of satellite) ≡ sign_width
 unfolding sign_of
-sign-long satellite = tabulate-length (sign_bit satellite) signWidth
+sign_long satellite = tabulate_length (sign_bit satellite) sign_width
 
-pub sign-bits : (satellite k : ℕ) → get_or (sign_of satellite) k 0 < 2
+pub sign_bits : (satellite k : ℕ) → get_or (sign_of satellite) k 0 < 2
 unfolding sign_of sign_bit
-sign-bits satellite k = tabulate-all (λ x. x < 2) (sign_bit satellite) signWidth (lit< tt) (λ n h. mod-lt _ (lit< tt)) k
+sign_bits satellite k = tabulate_all (λ x. x < 2) (sign_bit satellite) sign_width (lit< tt) (λ n h. mod-lt _ (lit< tt)) k
 
 -- what the code asks of bits that are there or not
-looked-as : (edition : Edition) (there : Bool) (call : List ℕ) → lookedAt edition (call_of there call) ≡ call_of (looksAt edition there) call
-looked-as Flown true call = refl
-looked-as Flown false call = refl
-looked-as Corrected true call = refl
-looked-as Corrected false call = refl
+looked_as : (edition : Edition) (there : Bool) (call : List ℕ) → looked_at edition (call_of there call) ≡ call_of (looks_at edition there) call
+looked_as Flown true call = refl
+looked_as Flown false call = refl
+looked_as Corrected true call = refl
+looked_as Corrected false call = refl
 
-module _ (edition : Edition) (there looked : Bool) (asked : looked ≡ looksAt edition there) (call : List ℕ) where
-  looked-is : (told : Bool) → looked ≡ told → lookedAt edition (call_of there call) ≡ call_of told call
-  looked-is told so = looked-as edition there call ∙ ap (λ (b : Bool). call_of b call) (sym asked ∙ so)
+module _ (edition : Edition) (there looked : Bool) (asked : looked ≡ looks_at edition there) (call : List ℕ) where
+  looked_is : (told : Bool) → looked ≡ told → looked_at edition (call_of there call) ≡ call_of told call
+  looked_is told so = looked_as edition there call ∙ ap (λ (b : Bool). call_of b call) (sym asked ∙ so)
 
   -- row 23's place, as the code finds it
-  pub no-bit-at : looked ≡ true → length call ≡ signWidth → (at : ℕ) → at ≡ firstNoBit call → at ≡ faultAt (lookedAt edition (call_of there call))
-  no-bit-at so long at is = is ∙ rw (looked-is true so, eq-eqb (length call) signWidth long)
+  pub no_bit_at : looked ≡ true → length call ≡ sign_width → (at : ℕ) → at ≡ first_no_bit call → at ≡ fault_at (looked_at edition (call_of there call))
+  no_bit_at so long at is = is ∙ rw (looked_is true so, eq-eqb (length call) sign_width long)
 
-  pub other_length : looked ≡ true → (length call ≡ signWidth → ⊥) → length call ≡ faultAt (lookedAt edition (call_of there call))
-  other_length so differs = rw (looked-is true so, ne_eqb (length call) signWidth differs)
+  pub other_length : looked ≡ true → (length call ≡ sign_width → ⊥) → length call ≡ fault_at (looked_at edition (call_of there call))
+  other_length so differs = rw (looked_is true so, ne_eqb (length call) sign_width differs)
 
-  pub no-fault-at : looked ≡ false → signWidth ≡ faultAt (lookedAt edition (call_of there call))
-  no-fault-at so = rw (looked-is false so)
+  pub no_fault_at : looked ≡ false → sign_width ≡ fault_at (looked_at edition (call_of there call))
+  no_fault_at so = rw (looked_is false so)
 
   -- row 24's test
-  pub other-found : looked ≡ true → (satellite at : ℕ) → at ≡ firstOther call satellite → at ≡ otherAt (lookedAt edition (call_of there call)) satellite
-  other-found so satellite at is = is ∙ rw (looked-is true so)
+  pub other_found : looked ≡ true → (satellite at : ℕ) → at ≡ first_other call satellite → at ≡ other_at (looked_at edition (call_of there call)) satellite
+  other_found so satellite at is = is ∙ rw (looked_is true so)
 
-  pub no-other-at : looked ≡ false → (satellite : ℕ) → signWidth ≡ otherAt (lookedAt edition (call_of there call)) satellite
-  no-other-at so satellite = rw (looked-is false so)
+  pub no_other_at : looked ≡ false → (satellite : ℕ) → sign_width ≡ other_at (looked_at edition (call_of there call)) satellite
+  no_other_at so satellite = rw (looked_is false so)
 
 -- WHAT THE TESTS OF ROWS 23 AND 24 SAY: together, that the call sign agrees where it is looked at
-pub tests_agree : (call : Call) (satellite : ℕ) → faultAt call ≡ signWidth → signWidth ≤ otherAt call satellite → Agrees call satellite
+pub tests_agree : (call : Call) (satellite : ℕ) → fault_at call ≡ sign_width → sign_width ≤ other_at call satellite → Agrees call satellite
 tests_agree absent satellite a b = tt
-tests_agree (given call) satellite a b = by (eqb (length call) signWidth) refl
+tests_agree (given call) satellite a b = by (eqb (length call) sign_width) refl
   where
-    by : (b : Bool) → eqb (length call) signWidth ≡ b → call ≡ sign_of satellite
-    by true e = none-differs call satellite (eqb-true (length call) signWidth e) b
-    by false e = absurd (eqb-false (length call) signWidth e (rw e at a))
+    by : (b : Bool) → eqb (length call) sign_width ≡ b → call ≡ sign_of satellite
+    by true e = none_differs call satellite (eqb-true (length call) sign_width e) b
+    by false e = absurd (eqb-false (length call) sign_width e (rw e at a))
 
-pub agrees-fault : (call : Call) (satellite : ℕ) → Agrees call satellite → faultAt call ≡ signWidth
-agrees-fault absent satellite so = refl
-agrees-fault (given call) satellite so =
-    let long : length call ≡ signWidth = rw so (sign-long satellite) in
-    rw (eq-eqb (length call) signWidth long) (no-bit-none call (rw so (sign-bits satellite)) ∙ long)
+pub agrees_fault : (call : Call) (satellite : ℕ) → Agrees call satellite → fault_at call ≡ sign_width
+agrees_fault absent satellite so = refl
+agrees_fault (given call) satellite so =
+    let long : length call ≡ sign_width = rw so (sign_long satellite) in
+    rw (eq-eqb (length call) sign_width long) (no_bit_none call (rw so (sign_bits satellite)) ∙ long)
 
-pub agrees-other : (call : Call) (satellite : ℕ) → Agrees call satellite → otherAt call satellite ≡ signWidth
-agrees-other absent satellite so = refl
-agrees-other (given call) satellite so = agreeing call satellite so
+pub agrees_other : (call : Call) (satellite : ℕ) → Agrees call satellite → other_at call satellite ≡ sign_width
+agrees_other absent satellite so = refl
+agrees_other (given call) satellite so = agreeing call satellite so

@@ -5,20 +5,20 @@ use Rattle.base.specs.Lists.{tabulate}
 use Rattle.text.specs.Text.{ascii}
 
 -- "they must spell DP0TBB, DP0TBC, DP0TBD or DP0TBE for A to D": A is 0. "Table 2 of 001 prints a letter O; the digit of its Table 1 is right."
-abbrev pub callSigns : List (List ℕ)
-callSigns = ascii "DP0TBB" ∷ ascii "DP0TBC" ∷ ascii "DP0TBD" ∷ ascii "DP0TBE" ∷ []
+abbrev pub call_signs : List (List ℕ)
+call_signs = ascii "DP0TBB" ∷ ascii "DP0TBC" ∷ ascii "DP0TBD" ∷ ascii "DP0TBE" ∷ []
 
 -- "six ASCII characters"; for a number that is no satellite's they are 0
-unfoldable pub callSign : ℕ → List ℕ
-callSign satellite = get_or callSigns satellite (replicate 6 0)
+unfoldable pub call_sign : ℕ → List ℕ
+call_sign satellite = get_or call_signs satellite (replicate 6 0)
 
 -- "in reading order, each lowest bit first": bit n
 unfoldable pub sign_bit : ℕ → ℕ → ℕ
-sign_bit satellite n = get_or (callSign satellite) (n / 8) 0 / 2 ^ (n % 8) % 2
+sign_bit satellite n = get_or (call_sign satellite) (n / 8) 0 / 2 ^ (n % 8) % 2
 
 -- "the 48 call sign bits"
-abbrev pub signWidth : ℕ
-signWidth = 48
+abbrev pub sign_width : ℕ
+sign_width = 48
 
 unfoldable pub sign_of : ℕ → List ℕ
-sign_of satellite = tabulate signWidth (sign_bit satellite)
+sign_of satellite = tabulate sign_width (sign_bit satellite)

@@ -4,8 +4,8 @@ use Rattle.std.specs.Prelude.{◌≡◌, Bool, true, false, cond, not, List, ℕ
 use Rattle.base.specs.declared.Edition.{Edition}
 use Rattle.base.specs.declared.Edition.TheVariants.{Flown, Corrected}
 use Rattle.base.specs.Lists.{lowest}
-use Rattle.air.specs.Air.{firstNoBit}
-use Rattle.sign.specs.CallSigns.{sign_bit, signWidth, sign_of}
+use Rattle.air.specs.Air.{first_no_bit}
+use Rattle.sign.specs.CallSigns.{sign_bit, sign_width, sign_of}
 
 -- "Uploads often include the 48 call sign bits": what was given of them
 pub data Call : Type 0 where
@@ -17,27 +17,27 @@ call_of true call = given call
 call_of false call = absent
 
 -- "When given under the flown edition"; "under the corrected edition they aren't looked at"
-abbrev pub looksAt : Edition → Bool → Bool
-looksAt Flown there = there
-looksAt Corrected there = false
+abbrev pub looks_at : Edition → Bool → Bool
+looks_at Flown there = there
+looks_at Corrected there = false
 
 -- what is looked at of what was given
-abbrev pub lookedAt : Edition → Call → Call
-lookedAt edition absent = absent
-lookedAt edition (given call) = call_of (looksAt edition true) call
+abbrev pub looked_at : Edition → Call → Call
+looked_at edition absent = absent
+looked_at edition (given call) = call_of (looks_at edition true) call
 
 -- "not 48 elements or one above 1 .. (place: the length, or the first bad index)"; 48 where neither is so
-abbrev pub faultAt : Call → ℕ
-faultAt absent = signWidth
-faultAt (given call) = cond (eqb (length call) signWidth) (firstNoBit call) (length call)
+abbrev pub fault_at : Call → ℕ
+fault_at absent = sign_width
+fault_at (given call) = cond (eqb (length call) sign_width) (first_no_bit call) (length call)
 
 -- "no bit forgiven": the lowest that is not the satellite's; 48 where all are
-unfoldable pub firstOther : List ℕ → ℕ → ℕ
-firstOther call satellite = lowest signWidth (λ n. not (eqb (get_or call n 0) (sign_bit satellite n)))
+unfoldable pub first_other : List ℕ → ℕ → ℕ
+first_other call satellite = lowest sign_width (λ n. not (eqb (get_or call n 0) (sign_bit satellite n)))
 
-abbrev pub otherAt : Call → ℕ → ℕ
-otherAt absent satellite = signWidth
-otherAt (given call) satellite = firstOther call satellite
+abbrev pub other_at : Call → ℕ → ℕ
+other_at absent satellite = sign_width
+other_at (given call) satellite = first_other call satellite
 
 -- "Where they are looked at, demands 2 and 3 then also need them to be 48 elements, each 0 or 1, that spell the call sign of the repaired
 -- header's satellite."

@@ -1,7 +1,7 @@
 // The call signs of the four S-NET satellites as 48 bits, and the bits that an upload may include held against them.
 ghost use Rattle.std.specs.Prelude.{◌≡◌, get_or};
-ghost use Rattle.sign.specs.CallSigns.{callSign, sign_bit, sign_of};
-ghost use Rattle.sign.specs.Calls.{call_of, looksAt, lookedAt, faultAt, firstOther, otherAt};
+ghost use Rattle.sign.specs.CallSigns.{call_sign, sign_bit, sign_of};
+ghost use Rattle.sign.specs.Calls.{call_of, looks_at, looked_at, fault_at, first_other, other_at};
 
 use base::Edition;
 
@@ -16,7 +16,7 @@ const SATELLITES: u8 = 4;
 // Character k of a satellite's call sign, DP0TBB to DP0TBE; 0 where there is none. Table 2 of document 001 prints a letter O for the
 // third character; the digit of its Table 1 is right.
 fn character(satellite: u8, k: usize) -> u8
-    ensures { result ≡ get_or (callSign satellite) k 0 }
+    ensures { result ≡ get_or (call_sign satellite) k 0 }
 {
     if SATELLITES <= satellite {
         return 0;
@@ -54,7 +54,7 @@ pub fn call_sign(satellite: u8) -> [u8; SIGN_BITS]
 
 // Whether call sign bits, which are given or not, are looked at.
 pub fn looks_at(edition: Edition, given: bool) -> bool
-    ensures { result ≡ looksAt edition given }
+    ensures { result ≡ looks_at edition given }
 {
     match edition {
         Edition::Flown => given,
@@ -65,7 +65,7 @@ pub fn looks_at(edition: Edition, given: bool) -> bool
 // Where call sign bits that are looked at are none: at their length where that is not 48, or else at the lowest element above 1. 48
 // where nothing is wrong, or they are not looked at. `given` says whether there are any, and `call` which.
 pub fn fault_at(edition: Edition, given: bool, call: &[u8]) -> usize
-    ensures { result ≡ faultAt (lookedAt edition (call_of given call.now)) }
+    ensures { result ≡ fault_at (looked_at edition (call_of given call.now)) }
 {
     if looks_at(edition, given) {
         let n = call.len();
@@ -89,7 +89,7 @@ fn element(call: &[u8], n: usize) -> u8
 
 // The lowest of 48 elements that is not the call sign's, or 48.
 fn first_other(call: &[u8], satellite: u8) -> usize
-    ensures { result ≡ firstOther call.now satellite }
+    ensures { result ≡ first_other call.now satellite }
 {
     let mut n = 0;
     while n < SIGN_BITS {
@@ -103,7 +103,7 @@ fn first_other(call: &[u8], satellite: u8) -> usize
 
 // Where call sign bits that are looked at differ from a satellite's: the lowest place. 48 where they agree, or are not looked at.
 pub fn other_at(edition: Edition, given: bool, call: &[u8], satellite: u8) -> usize
-    ensures { result ≡ otherAt (lookedAt edition (call_of given call.now)) satellite }
+    ensures { result ≡ other_at (looked_at edition (call_of given call.now)) satellite }
 {
     if looks_at(edition, given) {
         return first_other(call, satellite);

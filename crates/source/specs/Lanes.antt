@@ -8,77 +8,77 @@ use Rattle.header.specs.declared.Answer.TheVariants.{Accepted, Refused}
 use Rattle.source.specs.declared.Lane.{Lane}
 use Rattle.source.specs.declared.Source.{Source}
 use Rattle.source.specs.declared.Display.{Display}
-use Rattle.source.specs.Records.{silentLane, next_of, Own}
+use Rattle.source.specs.Records.{silent_lane, next_of, Own}
 
 -- "A radio keeps one frame counter as caller and another as responder"
 pub data Role : Type 0 where
-  as-caller : Role
-  as-responder : Role
+  as_caller : Role
+  as_responder : Role
 
 abbrev pub lanes : ℕ
 lanes = 2
 
 -- "Each source's sheet record splits into two lanes by the Caller bit", that of the repaired header: 1 is the caller's, 0 the
 -- responder's
-abbrev pub isCaller : Header → Bool
-isCaller h = h.«fields».«caller» == 1
+abbrev pub is_caller : Header → Bool
+is_caller h = h.«fields».«caller» == 1
 
-abbrev pub sentAs : Role → Header → Bool
-sentAs as-caller h = isCaller h
-sentAs as-responder h = not (isCaller h)
+abbrev pub sent_as : Role → Header → Bool
+sent_as as_caller h = is_caller h
+sent_as as_responder h = not (is_caller h)
 
 abbrev pub lane_of : Role → Source → Lane
-lane_of as-caller s = s.caller
-lane_of as-responder s = s.responder
+lane_of as_caller s = s.caller
+lane_of as_responder s = s.responder
 
 -- a source that was never heard
 abbrev pub silent : Source
-silent = record { caller = silentLane; responder = silentLane }
+silent = record { caller = silent_lane; responder = silent_lane }
 
 -- "each with its own last counter, missed and repeats": a lane hears its own accepted frames, and stays as it is at the other's
-abbrev pub laneAfter : Role → Source → Header → ℕ → Lane
-laneAfter role s h flips = cond (sentAs role h) (next_of (lane_of role s) h.«fields».fr_cnt_tx flips) (lane_of role s)
+abbrev pub lane_after : Role → Source → Header → ℕ → Lane
+lane_after role s h flips = cond (sent_as role h) (next_of (lane_of role s) h.«fields».fr_cnt_tx flips) (lane_of role s)
 
-unfoldable pub hearOf : Source → Header → ℕ → Source
-hearOf s h flips = record { caller = laneAfter as-caller s h flips; responder = laneAfter as-responder s h flips }
+unfoldable pub hear_of : Source → Header → ℕ → Source
+hear_of s h flips = record { caller = lane_after as_caller s h flips; responder = lane_after as_responder s h flips }
 
 -- "accepted and repaired stay per lane and are added for display"
-abbrev pub framesOf : Source → ℕ
-framesOf s = s.caller.frames + s.responder.frames
+abbrev pub frames_of : Source → ℕ
+frames_of s = s.caller.frames + s.responder.frames
 
-abbrev pub repairedOf : Source → ℕ
-repairedOf s = s.caller.repaired + s.responder.repaired
+abbrev pub repaired_of : Source → ℕ
+repaired_of s = s.caller.repaired + s.responder.repaired
 
-abbrev pub summedOf : Source → Display
-summedOf s = record { caller = s.caller; responder = s.responder; frames = framesOf s; repaired = repairedOf s }
+abbrev pub summed_of : Source → Display
+summed_of s = record { caller = s.caller; responder = s.responder; frames = frames_of s; repaired = repaired_of s }
 
 -- the record of a source
-abbrev pub sourceIn : List Source → ℕ → Source
-sourceIn sources k = slice_index_or sources k silent
+abbrev pub source_in : List Source → ℕ → Source
+source_in sources k = slice_index_or sources k silent
 
 -- "one per SrcId"
-abbrev pub recordOf : Header → ℕ
-recordOf h = h.«fields».src_id
+abbrev pub record_of : Header → ℕ
+record_of h = h.«fields».src_id
 
 -- an accepted frame changes its source's record
-abbrev pub heardIn : List Source → Header → ℕ → List Source
-heardIn sources h flips = slice_set sources (recordOf h) (hearOf (sourceIn sources (recordOf h)) h flips)
+abbrev pub heard_in : List Source → Header → ℕ → List Source
+heard_in sources h flips = slice_set sources (record_of h) (hear_of (source_in sources (record_of h)) h flips)
 
 -- frames accepted over n sources
-abbrev pub acceptedIn : ℕ → List Source → ℕ
-acceptedIn n sources = sum_to n (λ k. framesOf (sourceIn sources k))
+abbrev pub accepted_in : ℕ → List Source → ℕ
+accepted_in n sources = sum_to n (λ k. frames_of (source_in sources k))
 
 -- of n sources, one's numbers for display. One without a record has those of a source that was never heard.
-abbrev pub displayIn : ℕ → List Source → ℕ → Display
-displayIn n sources k = summedOf (cond (nat_lt k n) (sourceIn sources k) silent)
+abbrev pub display_in : ℕ → List Source → ℕ → Display
+display_in n sources k = summed_of (cond (nat_lt k n) (source_in sources k) silent)
 
 -- THE LANES OF RECORD k
 -- whether an answer is that to an accepted frame of a lane
-abbrev pub ofLane : ℕ → Role → Answer → Bool
-ofLane k role (Accepted h flips) = recordOf h == k && sentAs role h
-ofLane k role (Refused why) = false
+abbrev pub of_lane : ℕ → Role → Answer → Bool
+of_lane k role (Accepted h flips) = record_of h == k && sent_as role h
+of_lane k role (Refused why) = false
 
 -- what a lane hears of an answer: of its own accepted frames
-abbrev pub ownIn : ℕ → Role → Answer → List Own
-ownIn k role (Accepted h flips) = cond (ofLane k role (Accepted h flips)) (record { counter = h.«fields».fr_cnt_tx; flips = flips } ∷ []) []
-ownIn k role (Refused why) = []
+abbrev pub own_in : ℕ → Role → Answer → List Own
+own_in k role (Accepted h flips) = cond (of_lane k role (Accepted h flips)) (record { counter = h.«fields».fr_cnt_tx; flips = flips } ∷ []) []
+own_in k role (Refused why) = []

@@ -1,8 +1,8 @@
 // One source's record, of two lanes, and the counts of refusals: what a sheet is made of, whatever its edition.
 ghost use Rattle.std.specs.Prelude.{◌≡◌, ◌*◌, ◌≤◌};
-ghost use Rattle.source.specs.Records.{countLimit, addOf, missedOf, tally_of, next_of};
-ghost use Rattle.source.specs.Lanes.{lanes, silent, hearOf, framesOf, repairedOf, summedOf};
-ghost use Rattle.source.specs.Counts.{countedAt, refusalCounts, slot_of, countsAfter, totalIn};
+ghost use Rattle.source.specs.Records.{count_limit, add_of, missed_of, tally_of, next_of};
+ghost use Rattle.source.specs.Lanes.{lanes, silent, hear_of, frames_of, repaired_of, summed_of};
+ghost use Rattle.source.specs.Counts.{counted_at, refusal_counts, slot_of, counts_after, total_in};
 
 use base::{
     BEYOND_REPAIR, CRC5_DIFFERS, CRC13_DIFFERS, FLIPS_ABOVE_LIMIT, LIMIT_ABOVE_42, NO_BIT,
@@ -84,7 +84,7 @@ pub fn never_heard() -> Source
 
 // A count after `more`: the sum, or the most that a count can be.
 fn add(count: u32, more: u32) -> u32
-    ensures { result ≡ addOf count more }
+    ensures { result ≡ add_of count more }
 {
     if COUNT_LIMIT - count < more {
         return COUNT_LIMIT;
@@ -94,7 +94,7 @@ fn add(count: u32, more: u32) -> u32
 
 // The frames between two counters. Both may be above 15: 256 is a multiple of 16, so a difference that wraps is right mod 16.
 fn missed(last: u8, new: u8) -> u32
-    ensures { result ≡ missedOf last new }
+    ensures { result ≡ missed_of last new }
 {
     let apart = std::num::wrapping_sub_u8(new, last);
     let between = std::num::wrapping_sub_u8(apart, 1);
@@ -131,7 +131,7 @@ pub fn next(lane: Lane, fr_cnt_tx: u8, flips: u32) -> Lane
 
 // A source's record after an accepted frame: the other lane stays as it is.
 pub fn hear(source: Source, header: Header, flips: u32) -> Source
-    ensures { result ≡ hearOf source header flips }
+    ensures { result ≡ hear_of source header flips }
 {
     let called = source.caller;
     let responded = source.responder;
@@ -151,22 +151,22 @@ pub fn hear(source: Source, header: Header, flips: u32) -> Source
 
 // Frames accepted in both lanes of a source.
 pub fn frames(source: Source) -> u64
-    ensures value { result ≡ framesOf source }
-    ensures upper_bound { result ≤ lanes * countLimit }
+    ensures value { result ≡ frames_of source }
+    ensures upper_bound { result ≤ lanes * count_limit }
 {
     source.caller.frames as u64 + source.responder.frames as u64
 }
 
 // Bits repaired in both lanes of a source.
 fn repaired(source: Source) -> u64
-    ensures { result ≡ repairedOf source }
+    ensures { result ≡ repaired_of source }
 {
     source.caller.repaired as u64 + source.responder.repaired as u64
 }
 
 // A source's record with its sums.
 pub fn summed(source: Source) -> Display
-    ensures { result ≡ summedOf source }
+    ensures { result ≡ summed_of source }
 {
     let caller = source.caller;
     let responder = source.responder;
@@ -180,7 +180,7 @@ pub fn summed(source: Source) -> Display
 
 // The number that count k is of; 0 where there is no such count.
 pub fn counted_number(k: usize) -> u8
-    ensures { result ≡ countedAt k }
+    ensures { result ≡ counted_at k }
 {
     if REFUSAL_COUNTS <= k {
         return 0;
@@ -204,7 +204,7 @@ fn slot(number: u8) -> usize
 
 // The counts of refusals after a frame that was refused with a number. Where the number is not counted, they stay as they are.
 pub fn refuse(counts: [u32; REFUSAL_COUNTS], number: u8) -> [u32; REFUSAL_COUNTS]
-    ensures { result ≡ countsAfter counts number }
+    ensures { result ≡ counts_after counts number }
 {
     let k = slot(number);
     if REFUSAL_COUNTS <= k {
@@ -217,8 +217,8 @@ pub fn refuse(counts: [u32; REFUSAL_COUNTS], number: u8) -> [u32; REFUSAL_COUNTS
 
 // The sum of the counts of refusals.
 pub fn total(counts: [u32; REFUSAL_COUNTS]) -> u64
-    ensures value { result ≡ totalIn counts }
-    ensures upper_bound { result ≤ refusalCounts * countLimit }
+    ensures value { result ≡ total_in counts }
+    ensures upper_bound { result ≤ refusal_counts * count_limit }
 {
     let mut sum: u64 = 0;
     let mut k = 0;

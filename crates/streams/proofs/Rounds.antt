@@ -35,5 +35,5 @@ module _ (least : ℕ) (buf₀ out₀ buf out : List ℕ) (kept turns : ℕ) (so
   has_room some = omega (arith, so.fits, so.input, so.short some)
 
   -- what is kept can be lent
-  pub kept-inside : kept ≤ length buf
-  kept-inside = omega (arith, so.inside, so.input)
+  pub kept_inside : kept ≤ length buf
+  kept_inside = omega (arith, so.inside, so.input)

@@ -17,8 +17,8 @@ read_on Done over = Done
 read_on Failed over = Failed
 
 -- how to go on after a read and the write that follows it
-abbrev pub onwardOf : Next → Bool → Next
-onwardOf read wrote = cond wrote read Failed
+abbrev pub onward_of : Next → Bool → Next
+onward_of read wrote = cond wrote read Failed
 
 -- whether all that is wanted has come and was written
 abbrev pub done_of : Next → Bool

@@ -1,7 +1,7 @@
 // Standard input read on into a buffer, and standard output written: what programs share. A failure is told on standard error.
 ghost use Rattle.std.specs.Prelude.{◌≡◌, ◌+◌, ◌-◌, ◌%◌, ◌^◌, ◌<◌, ◌≤◌, false, length};
 ghost use Rattle.streams.specs.declared.Next.TheVariants.{More};
-ghost use Rattle.streams.specs.Turns.{ReadOn, read_on, onwardOf, done_of, TurnsLeft};
+ghost use Rattle.streams.specs.Turns.{ReadOn, read_on, onward_of, done_of, TurnsLeft};
 
 use libc::{STDIN_FILENO, STDOUT_FILENO};
 
@@ -149,7 +149,7 @@ pub fn after_read(read: Next, over: bool) -> Next
 
 // How to go on after a read and the write that followed it.
 pub fn after_write(read: Next, wrote: bool) -> Next
-    ensures { result ≡ onwardOf read wrote }
+    ensures { result ≡ onward_of read wrote }
 {
     if wrote {
         return read;

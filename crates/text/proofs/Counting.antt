@@ -5,14 +5,14 @@ use Prim.Native.Nat.{ℕ, ◌+◌, ◌*◌, ◌/◌, ◌^◌, ◌<◌, ◌≤◌
 use native.Mathlib.Nat.{div-one, div-div-eq-div-mul, le-div_iff_mul-le, div-lt_iff_lt-mul}
 use native.Mathlib.Omega.{arith}
 use lib.ListN.{length}
-use Rattle.text.specs.Text.{decimalOf, mostDigits}
-use Rattle.text.proofs.Decimal.{decimal-one, length_more, decimal-short}
+use Rattle.text.specs.Text.{decimal_of, most_digits}
+use Rattle.text.proofs.Decimal.{decimal_one, length_more, decimal_short}
 
 -- the last k digits are counted, and the first of these has the weight `unit`; so n / unit ends with it
 pub record Counted (n unit k : ℕ) : Type 0 where
   pub some : 1 ≤ k
   pub few : k ≤ unit
-  pub left : length (decimalOf n) + 1 ≡ k + length (decimalOf (n / unit))
+  pub left : length (decimal_of n) + 1 ≡ k + length (decimal_of (n / unit))
 
 -- the last digit has the weight 1
 pub starts : (n : ℕ) → Counted n 1 1
@@ -34,11 +34,11 @@ module _ (n unit k : ℕ) (so : Counted n unit k) where
       }
 
   -- there is none before them
-  pub ends : n / 10 < unit → k ≡ length (decimalOf n)
+  pub ends : n / 10 < unit → k ≡ length (decimal_of n)
   ends h =
       let last : n / unit < 10 = (div-lt_iff_lt-mul positive).1 (omega arith) in
-      omega (arith, so.left, ap length (decimal-one (n / unit) last))
+      omega (arith, so.left, ap length (decimal_one (n / unit) last))
 
   -- and of a u64 there are few
-  pub ends-short : n / 10 < unit → n < 2 ^ 64 → k ≤ mostDigits
-  ends-short h small = omega (arith, ends h, decimal-short n small)
+  pub ends_short : n / 10 < unit → n < 2 ^ 64 → k ≤ most_digits
+  ends_short h small = omega (arith, ends h, decimal_short n small)

@@ -6,21 +6,21 @@ use Prim.Native.Nat.{ℕ}
 use lib.ListN.{drop}
 use lib.Seq.{drop-drop}
 use Rattle.text.specs.Text.{Put}
-use Rattle.text.specs.Forms.{takenBy, takenIn, form_of}
+use Rattle.text.specs.Forms.{taken_by, taken_in, form_of}
 use Rattle.text.proofs.Laid.{put_then}
 
 -- one form after another is one form; the second takes the numbers that the first leaves
-form-append : (a b numbers piece : List ℕ) → form_of (a ++ b) numbers piece ≡ form_of a numbers piece ++ form_of b (drop (takenIn a) numbers) piece
+form_append : (a b numbers piece : List ℕ) → form_of (a ++ b) numbers piece ≡ form_of a numbers piece ++ form_of b (drop (taken_in a) numbers) piece
 unfolding form_of
-form-append [] b numbers piece = refl
-form-append (x ∷ a) b numbers piece = rw (form-append a b (drop (takenBy x) numbers) piece, drop-drop (takenIn a) (takenBy x) numbers, append_assoc)
+form_append [] b numbers piece = refl
+form_append (x ∷ a) b numbers piece = rw (form_append a b (drop (taken_by x) numbers) piece, drop-drop (taken_in a) (taken_by x) numbers, append_assoc)
 
 -- and so for what was put
-pub put-forms : {l m n : List ℕ} {at p q : ℕ} (a b numbers piece : List ℕ)
-    → Put l at (form_of a numbers piece) m p → Put m p (form_of b (drop (takenIn a) numbers) piece) n q → Put l at (form_of (a ++ b) numbers piece) n q
-put-forms a b numbers piece first second = rw (form-append a b numbers piece) (put_then first second)
+pub put_forms : {l m n : List ℕ} {at p q : ℕ} (a b numbers piece : List ℕ)
+    → Put l at (form_of a numbers piece) m p → Put m p (form_of b (drop (taken_in a) numbers) piece) n q → Put l at (form_of (a ++ b) numbers piece) n q
+put_forms a b numbers piece first second = rw (form_append a b numbers piece) (put_then first second)
 
 -- three forms
-pub form-three : (a b c numbers piece : List ℕ)
-    → form_of (a ++ (b ++ c)) numbers piece ≡ form_of a numbers piece ++ form_of b (drop (takenIn a) numbers) piece ++ form_of c (drop (takenIn b) (drop (takenIn a) numbers)) piece
-form-three a b c numbers piece = rw (form-append a (b ++ c) numbers piece, form-append b c (drop (takenIn a) numbers) piece, append_assoc)
+pub form_three : (a b c numbers piece : List ℕ)
+    → form_of (a ++ (b ++ c)) numbers piece ≡ form_of a numbers piece ++ form_of b (drop (taken_in a) numbers) piece ++ form_of c (drop (taken_in b) (drop (taken_in a) numbers)) piece
+form_three a b c numbers piece = rw (form_append a (b ++ c) numbers piece, form_append b c (drop (taken_in a) numbers) piece, append_assoc)

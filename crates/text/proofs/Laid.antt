@@ -11,9 +11,9 @@ use lib.Seq.{length-take-le, take_at, take-append_seam, drop_at, drop-drop, take
 use Rattle.text.specs.Text.{laid, Put}
 
 -- no text changes nothing: where a loop that puts text after text starts
-pub put-none : {l : List ℕ} {at : ℕ} → at ≤ length l → Put l at [] l at
+pub put_none : {l : List ℕ} {at : ℕ} → at ≤ length l → Put l at [] l at
 unfolding laid
-put-none {l} {at} h = record { bytes = rw (add-zero, append-nil) (sym (take-append-drop at l)); place = rw add-zero; fits = h; kept = refl }
+put_none {l} {at} h = record { bytes = rw (add-zero, append-nil) (sym (take-append-drop at l)); place = rw add-zero; fits = h; kept = refl }
 
 -- one byte
 pub laid_one : (l : List ℕ) (at x : ℕ) → at < length l → laid l at (x ∷ []) ≡ set l at x
@@ -21,10 +21,10 @@ unfolding laid
 laid_one l at x h = rw (set_split l at x h, add-one, append_snoc)
 
 -- the last byte may be put first, and the rest of the text then
-pub laid-last : (l : List ℕ) (at : ℕ) (text : List ℕ) (x : ℕ) → at + length text < length l
+pub laid_last : (l : List ℕ) (at : ℕ) (text : List ℕ) (x : ℕ) → at + length text < length l
     → laid l at (text ++ (x ∷ [])) ≡ laid (set l (at + length text) x) at text
 unfolding laid
-laid-last l at text x h =
+laid_last l at text x h =
     let p : ℕ = at + length text in
     let past : at + length (text ++ (x ∷ [])) ≡ suc p = omega (arith, length-append text (x ∷ [])) in
     let there : drop p (set l p x) ≡ x ∷ drop (suc p) l =

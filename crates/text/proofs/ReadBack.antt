@@ -8,9 +8,9 @@ use native.Mathlib.Nat.{not-suc-le-zero}
 use native.Mathlib.Omega.{arith}
 use lib.ListN.{length, get_or, length-append, get_or-append}
 use lib.Seq.{get_or_at}
-use Rattle.base.proofs.Tests.{lt-or-ge}
-use Rattle.text.specs.Text.{ascii, digit, decimalOf}
-use Rattle.text.proofs.Decimal.{decimal-one, decimal-more, decimal-some, by-tens}
+use Rattle.base.proofs.Tests.{lt_or_ge}
+use Rattle.text.specs.Text.{ascii, digit, decimal_of}
+use Rattle.text.proofs.Decimal.{decimal_one, decimal_more, decimal_some, by_tens}
 
 -- an ASCII digit, and a list of nothing else
 pub record IsDigit (c : ℕ) : Type 0 where
@@ -28,40 +28,40 @@ one_more l d h are k lt =
     (λ (after : length l ≤ k).
     let last : length l ≡ k = omega (arith, rw length-append at lt) in
     rw (get_or_at l (digit d) [] 0 k last) (record { low = omega arith; high = omega arith }))
-    (lt-or-ge k (length l))
+    (lt_or_ge k (length l))
 
 -- each byte of a number is a digit
-pub decimal-digits : (n : ℕ) → AreDigits (decimalOf n)
-decimal-digits =
-    by-tens (λ n. AreDigits (decimalOf n))
-    (λ n small. rw (decimal-one n small) (one_more [] n small (λ k h. absurd (not-suc-le-zero h))))
-    (λ n large rest. rw (decimal-more n large) (one_more (decimalOf (n / 10)) (n % 10) (omega arith) rest))
+pub decimal_digits : (n : ℕ) → AreDigits (decimal_of n)
+decimal_digits =
+    by_tens (λ n. AreDigits (decimal_of n))
+    (λ n small. rw (decimal_one n small) (one_more [] n small (λ k h. absurd (not-suc-le-zero h))))
+    (λ n large rest. rw (decimal_more n large) (one_more (decimal_of (n / 10)) (n % 10) (omega arith) rest))
 
 -- no leading zero: the first digit is 0 in the number 0 only
-pub decimal-first : (n : ℕ) → get_or (decimalOf n) 0 0 ≡ digit 0 → n ≡ 0
-decimal-first =
-    by-tens (λ n. get_or (decimalOf n) 0 0 ≡ digit 0 → n ≡ 0)
-    (λ n small e. omega (arith, rw (decimal-one n small) at e))
+pub decimal_first : (n : ℕ) → get_or (decimal_of n) 0 0 ≡ digit 0 → n ≡ 0
+decimal_first =
+    by_tens (λ n. get_or (decimal_of n) 0 0 ≡ digit 0 → n ≡ 0)
+    (λ n small e. omega (arith, rw (decimal_one n small) at e))
     (λ n large rest e.
-    let same = get_or-append (decimalOf (n / 10)) (digit (n % 10) ∷ []) 0 0 (decimal-some (n / 10)) in
-    omega (arith, rest (rw (decimal-more n large, same) at e)))
+    let same = get_or-append (decimal_of (n / 10)) (digit (n % 10) ∷ []) 0 0 (decimal_some (n / 10)) in
+    omega (arith, rest (rw (decimal_more n large, same) at e)))
 
 -- the number that digits read as
 abbrev pub value_of : List ℕ → ℕ
 value_of = foldl (λ (v c : ℕ). v * 10 + (c - digit 0)) 0
 
 -- the digits of n read as n
-pub decimal-value : (n : ℕ) → value_of (decimalOf n) ≡ n
-decimal-value =
-    by-tens (λ n. value_of (decimalOf n) ≡ n)
-    (λ n small. rw (decimal-one n small) (omega arith))
-    (λ n large rest. rw (decimal-more n large, foldl-append) (rw rest (omega arith)))
+pub decimal_value : (n : ℕ) → value_of (decimal_of n) ≡ n
+decimal_value =
+    by_tens (λ n. value_of (decimal_of n) ≡ n)
+    (λ n small. rw (decimal_one n small) (omega arith))
+    (λ n large rest. rw (decimal_more n large, foldl-append) (rw rest (omega arith)))
 
 -- so two numbers with the same digits are one
-pub decimal-same : (m n : ℕ) → decimalOf m ≡ decimalOf n → m ≡ n
-decimal-same m n e = sym (decimal-value m) ∙ ap value_of e ∙ decimal-value n
+pub decimal_same : (m n : ℕ) → decimal_of m ≡ decimal_of n → m ≡ n
+decimal_same m n e = sym (decimal_value m) ∙ ap value_of e ∙ decimal_value n
 
 -- some numbers as one writes them
-pub decimal-examples : map decimalOf (0 ∷ 7 ∷ 42 ∷ 65535 ∷ 18446744073709551615 ∷ []) ≡ map ascii ("0" ∷ "7" ∷ "42" ∷ "65535" ∷ "18446744073709551615" ∷ [])
-unfolding decimalOf
-decimal-examples = refl
+pub decimal_examples : map decimal_of (0 ∷ 7 ∷ 42 ∷ 65535 ∷ 18446744073709551615 ∷ []) ≡ map ascii ("0" ∷ "7" ∷ "42" ∷ "65535" ∷ "18446744073709551615" ∷ [])
+unfolding decimal_of
+decimal_examples = refl

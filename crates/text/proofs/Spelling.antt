@@ -5,23 +5,23 @@ use mathlib.Core.List.{List, [], ◌∷◌, ◌++◌}
 use Prim.Native.Nat.{ℕ, ◌+◌, ◌-◌, ◌/◌, ◌%◌, ◌<◌, ◌≤◌}
 use native.Mathlib.Omega.{arith}
 use lib.ListN.{length, set, length-set}
-use Rattle.text.specs.Text.{digit, decimalOf, mostDigits, laid, Put}
-use Rattle.text.proofs.Decimal.{decimal-one, decimal-more, length_more, decimal-some}
-use Rattle.text.proofs.Laid.{laid_one, laid-last}
+use Rattle.text.specs.Text.{digit, decimal_of, most_digits, laid, Put}
+use Rattle.text.proofs.Decimal.{decimal_one, decimal_more, length_more, decimal_some}
+use Rattle.text.proofs.Laid.{laid_one, laid_last}
 
 -- the digits of `rest` are still to be put, the last of them at i; with them the text up to `end` is whole
 pub record Spelled (before : List ℕ) (at n end : ℕ) (after : List ℕ) (i rest : ℕ) : Type 0 where
-  pub bytes : laid after at (decimalOf rest) ≡ laid before at (decimalOf n)
-  pub last : i + 1 ≡ at + length (decimalOf rest)
+  pub bytes : laid after at (decimal_of rest) ≡ laid before at (decimal_of n)
+  pub last : i + 1 ≡ at + length (decimal_of rest)
   pub inside : i < end
-  pub place : end ≡ at + length (decimalOf n)
+  pub place : end ≡ at + length (decimal_of n)
   pub fits : end ≤ length before
-  pub short : end ≤ at + mostDigits
+  pub short : end ≤ at + most_digits
   pub kept : length after ≡ length before
 
 module _ (l : List ℕ) (at n : ℕ) where
   -- nothing is put yet: the last digit of the number goes just before its end
-  pub starts : (w i : ℕ) → w ≡ length (decimalOf n) → w ≤ mostDigits → i + 1 ≡ at + w → at + mostDigits ≤ length l → Spelled l at n (at + w) l i n
+  pub starts : (w i : ℕ) → w ≡ length (decimal_of n) → w ≤ most_digits → i + 1 ≡ at + w → at + most_digits ≤ length l → Spelled l at n (at + w) l i n
   starts w i e short last room =
       record {
         bytes = refl;
@@ -36,18 +36,18 @@ module _ (l : List ℕ) (at n : ℕ) where
   module _ (end : ℕ) (m : List ℕ) (i rest : ℕ) (so : Spelled l at n end m i rest) where
     -- another digit goes before this one
     pub goes_before : 10 ≤ rest → 1 ≤ i
-    goes_before h = omega (arith, so.last, length_more rest h, decimal-some (rest / 10))
+    goes_before h = omega (arith, so.last, length_more rest h, decimal_some (rest / 10))
 
     -- the last digit of `rest` is put; those of its tenth are left
     pub goes_on : (x : ℕ) → x ≡ digit (rest % 10) → 10 ≤ rest → Spelled l at n end (set m i x) (i - 1) (rest / 10)
     goes_on x e h =
-        let others : List ℕ = decimalOf (rest / 10) in
+        let others : List ℕ = decimal_of (rest / 10) in
         let there : i ≡ at + length others = omega (arith, so.last, length_more rest h) in
         let lt : at + length others < length m = omega (arith, so.inside, so.fits, so.kept) in
-        let whole : laid m at (others ++ (x ∷ [])) ≡ laid l at (decimalOf n) = rw (e, ← decimal-more rest h) so.bytes in
+        let whole : laid m at (others ++ (x ∷ [])) ≡ laid l at (decimal_of n) = rw (e, ← decimal_more rest h) so.bytes in
         record {
-          bytes = rw there (sym (laid-last m at others x lt) ∙ whole);
-          last = omega (arith, decimal-some (rest / 10));
+          bytes = rw there (sym (laid_last m at others x lt) ∙ whole);
+          last = omega (arith, decimal_some (rest / 10));
           inside = omega (arith, so.inside);
           place = so.place;
           fits = so.fits;
@@ -56,12 +56,12 @@ module _ (l : List ℕ) (at n : ℕ) where
         }
 
     -- `rest` is one digit, which goes to the start of the text
-    pub ends : (x : ℕ) → x ≡ digit rest → rest < 10 → Put l at (decimalOf n) (set m i x) end
+    pub ends : (x : ℕ) → x ≡ digit rest → rest < 10 → Put l at (decimal_of n) (set m i x) end
     ends x e h =
-        let there : i ≡ at = omega (arith, so.last, ap length (decimal-one rest h)) in
+        let there : i ≡ at = omega (arith, so.last, ap length (decimal_one rest h)) in
         let lt : at < length m = omega (arith, so.inside, so.fits, so.kept) in
         record {
-          bytes = rw (e, there) (sym (laid_one m at (digit rest) lt) ∙ rw (decimal-one rest h) at so.bytes);
+          bytes = rw (e, there) (sym (laid_one m at (digit rest) lt) ∙ rw (decimal_one rest h) at so.bytes);
           place = so.place;
           fits = so.fits;
           kept = length-set m i x ∙ so.kept;

@@ -14,27 +14,27 @@ abbrev pub digit : ℕ → ℕ
 digit d = 48 + d
 
 -- the digits of n, the highest first and no 0 in front, so that 0 has none; there is room for `most` of them
-abbrev pub digitsIn : ℕ → ℕ → List ℕ
-digitsIn zero n = []
-digitsIn (suc most) zero = []
-digitsIn (suc most) (suc m) = digitsIn most (suc m / 10) ++ (digit (suc m % 10) ∷ [])
+abbrev pub digits_in : ℕ → ℕ → List ℕ
+digits_in zero n = []
+digits_in (suc most) zero = []
+digits_in (suc most) (suc m) = digits_in most (suc m / 10) ++ (digit (suc m % 10) ∷ [])
 
 -- "Numbers are decimal": the digits of n / 10, never more than n, and then the last digit of n, which 0 has too
-unfoldable pub decimalOf : ℕ → List ℕ
-decimalOf n = digitsIn n (n / 10) ++ (digit (n % 10) ∷ [])
+unfoldable pub decimal_of : ℕ → List ℕ
+decimal_of n = digits_in n (n / 10) ++ (digit (n % 10) ∷ [])
 
 -- the ASCII code of a digit of a base up to 16: that of "a" is 97
-abbrev pub letterOf : ℕ → ℕ
-letterOf d = cond (ltb d 10) (digit d) (87 + d)
+abbrev pub letter_of : ℕ → ℕ
+letter_of d = cond (ltb d 10) (digit d) (87 + d)
 
 -- the last `width` digits of n in a base, with 0s in front where it has fewer
 unfoldable pub fixed_of : ℕ → ℕ → ℕ → List ℕ
 fixed_of base zero n = []
-fixed_of base (suc width) n = fixed_of base width (n / base) ++ (letterOf (n % base) ∷ [])
+fixed_of base (suc width) n = fixed_of base width (n / base) ++ (letter_of (n % base) ∷ [])
 
 -- the most digits that a number below 2 ^ 64 has
-abbrev pub mostDigits : ℕ
-mostDigits = 20
+abbrev pub most_digits : ℕ
+most_digits = 20
 
 -- the list l with `text` over it from place `at` on
 unfoldable pub laid : List ℕ → ℕ → List ℕ → List ℕ

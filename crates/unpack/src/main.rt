@@ -1,8 +1,8 @@
 // Writes the records on standard input as lines of text, after each read. It moves bytes and does nothing else: the text is `unpacking`'s.
 // Where bytes are left that are no record, it tells on standard error at which byte and why.
 ghost use Rattle.std.specs.Prelude.{◌*◌, ◌≤◌, length};
-ghost use Rattle.air.specs.Air.{payloadLimit};
-ghost use Rattle.record.specs.Records.{recordSize};
+ghost use Rattle.air.specs.Air.{payload_limit};
+ghost use Rattle.record.specs.Records.{record_size};
 
 use libc::STDERR_FILENO;
 use record::{Ending, is_over};
@@ -25,7 +25,7 @@ fn tell_cut(ending: Ending, place: u64) {
 // Unpacks the input, read by read. Where a read or a write fails, the lines up to there are written, and nothing is told of the rest.
 // The turns are counted down from a number that no run uses up: each but the last reads a byte.
 fn unpack(buf: &mut [u8], out: &mut [u8])
-    requires payload_limit_in_bounds { recordSize payloadLimit ≤ length buf.old }
+    requires payload_limit_in_bounds { record_size payload_limit ≤ length buf.old }
     requires buf_in_bounds { 2 * length buf.old ≤ length out.old }
 {
     let mut front = 0;

@@ -4,24 +4,24 @@ use mathlib.Core.Path.{◌≡◌, refl, ap, ◌∙◌}
 use mathlib.Core.Bool.{false}
 use mathlib.Core.List.{List, append-nil, flatten}
 use Prim.Native.Nat.{ℕ}
-use Rattle.walk.specs.Walks.{Closed, closedBy}
+use Rattle.walk.specs.Walks.{Closed, closed_by}
 use Rattle.walk.proofs.Walking.{Sound}
-use Rattle.walk.proofs.Feeding.{fed-whole}
-use Rattle.record.proofs.Stays.{air-stays, payload-stays}
-use Rattle.record.proofs.Walking.{record-sound, cut-settled}
-use Rattle.unpacking.specs.Lines.{textLineIn}
-use Rattle.unpacking.specs.Unpacking.{lineWalk, unpackedOf, noClosing, streamedOf}
+use Rattle.walk.proofs.Feeding.{fed_whole}
+use Rattle.record.proofs.Stays.{air_stays, payload_stays}
+use Rattle.record.proofs.Walking.{record_sound, cut_settled}
+use Rattle.unpacking.specs.Lines.{text_line_in}
+use Rattle.unpacking.specs.Unpacking.{line_walk, unpacked_of, no_closing, streamed_of}
 
-pub line-sound : Sound lineWalk
-line-sound = record-sound (λ s. false) (λ s n l. s) (λ s n l. textLineIn n l) (record {
-  next-same = λ s l f n e. refl;
-  text_same = λ s l f n e. rw (air-stays l f n e, payload-stays l f n e);
+pub line_sound : Sound line_walk
+line_sound = record_sound (λ s. false) (λ s n l. s) (λ s n l. text_line_in n l) (record {
+  next_same = λ s l f n e. refl;
+  text_same = λ s l f n e. rw (air_stays l f n e, payload_stays l f n e);
 })
 
 -- however the input is cut into pieces, what is written is the lines of the whole
-pub whole-unpacking : (pieces : List (List ℕ)) → streamedOf pieces ≡ unpackedOf (flatten pieces)
-unfolding streamedOf
-whole-unpacking pieces =
+pub whole_unpacking : (pieces : List (List ℕ)) → streamed_of pieces ≡ unpacked_of (flatten pieces)
+unfolding streamed_of
+whole_unpacking pieces =
     ap (λ (c : Closed (Unit {0})). c.text)
-    (fed-whole lineWalk line-sound (closedBy noClosing) (cut-settled (λ s. false) (λ s n l. s) (λ s n l. textLineIn n l) noClosing) tt pieces)
-    ∙ append-nil (unpackedOf (flatten pieces))
+    (fed_whole line_walk line_sound (closed_by no_closing) (cut_settled (λ s. false) (λ s n l. s) (λ s n l. text_line_in n l) no_closing) tt pieces)
+    ∙ append-nil (unpacked_of (flatten pieces))

@@ -1,27 +1,27 @@
 -- The lines of a whole input, and of an input that comes in pieces.
 -- Assumes nothing.
 use Rattle.std.specs.Prelude.{Bool, false, List, [], ℕ}
-use Rattle.walk.specs.Walks.{Walk, closedBy, Walked, walk_of, fedOf}
+use Rattle.walk.specs.Walks.{Walk, closed_by, Walked, walk_of, fed_of}
 use Rattle.record.specs.declared.Ending.{Ending}
-use Rattle.record.specs.Walks.{recordWalk}
-use Rattle.unpacking.specs.Lines.{textLineIn}
+use Rattle.record.specs.Walks.{record_walk}
+use Rattle.unpacking.specs.Lines.{text_line_in}
 
 -- a whole record has a line: nothing is kept from one to the next, and none is refused
-abbrev pub lineWalk : Walk (Unit {0}) ℕ Ending
-lineWalk = recordWalk (λ s. false) (λ s n l. s) (λ s n l. textLineIn n l)
+abbrev pub line_walk : Walk (Unit {0}) ℕ Ending
+line_walk = record_walk (λ s. false) (λ s n l. s) (λ s n l. text_line_in n l)
 
 -- what becomes of some bytes
-abbrev pub scanOf : List ℕ → Walked (Unit {0}) Ending
-scanOf l = walk_of lineWalk tt l
+abbrev pub scan_of : List ℕ → Walked (Unit {0}) Ending
+scan_of l = walk_of line_walk tt l
 
 -- the lines of a whole input
-abbrev pub unpackedOf : List ℕ → List ℕ
-unpackedOf input = (scanOf input).text
+abbrev pub unpacked_of : List ℕ → List ℕ
+unpacked_of input = (scan_of input).text
 
 -- nothing follows the last line
-abbrev pub noClosing : Unit {0} → Bool → List ℕ
-noClosing s cut = []
+abbrev pub no_closing : Unit {0} → Bool → List ℕ
+no_closing s cut = []
 
 -- the lines of an input that comes in pieces
-unfoldable pub streamedOf : List (List ℕ) → List ℕ
-streamedOf pieces = (fedOf lineWalk (closedBy noClosing) tt [] pieces).text
+unfoldable pub streamed_of : List (List ℕ) → List ℕ
+streamed_of pieces = (fed_of line_walk (closed_by no_closing) tt [] pieces).text

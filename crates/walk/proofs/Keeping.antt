@@ -6,19 +6,19 @@ use Prim.Native.Nat.{ℕ, ◌+◌, ◌-◌, ◌*◌, ◌<◌, ◌≤◌}
 use native.Mathlib.Omega.{arith}
 use lib.ListN.{length, take, drop, length-drop}
 use lib.Seq.{length-take-le, take-add, take_at, drop_at}
-use Rattle.text.proofs.Sizes.{part-size}
+use Rattle.text.proofs.Sizes.{part_size}
 use Rattle.walk.specs.Walks.{waits, Walk, Ended, waiting, walk_of}
 use Rattle.walk.specs.Moves.{Moved}
 use Rattle.walk.specs.Scans.{Scanned, Turned}
-use Rattle.walk.proofs.Walking.{Sound, Stopped, short, Suffix, walk-rest, walk-stopped}
+use Rattle.walk.proofs.Walking.{Sound, Stopped, short, Suffix, walk_rest, walk_stopped}
 
 -- the first n bytes have room where n bytes have
-pub part-fits : (growth : ℕ) (l : List ℕ) (n : ℕ) → n ≤ length l → (room : ℕ) → growth * n ≤ room → 0 + growth * length (take n l) ≤ room
-part-fits growth l n inside room h = rw (← part-size l n inside) (omega (arith, h))
+pub part_fits : (growth : ℕ) (l : List ℕ) (n : ℕ) → n ≤ length l → (room : ℕ) → growth * n ≤ room → 0 + growth * length (take n l) ≤ room
+part_fits growth l n inside room h = rw (← part_size l n inside) (omega (arith, h))
 
 -- the end of the first bytes
-drop-take : (from n : ℕ) (l : List ℕ) → from ≤ length l → drop from (take (from + n) l) ≡ take n (drop from l)
-drop-take from n l h = rw (take-add from n l) (drop_at (take from l) (take n (drop from l)) from (length-take-le from l h))
+drop_take : (from n : ℕ) (l : List ℕ) → from ≤ length l → drop from (take (from + n) l) ≡ take n (drop from l)
+drop_take from n l h = rw (take-add from n l) (drop_at (take from l) (take n (drop from l)) from (length-take-le from l h))
 
 -- what was moved stands at the front
 moved_front : (before : List ℕ) (from n : ℕ) (after : List ℕ) → from + n ≤ length before → Moved before from n after → take n after ≡ take n (drop from before)
@@ -29,57 +29,57 @@ module _ {S I R : Type 0} (walk : Walk S I R) (sound : Sound walk) (start : S) w
   -- the bytes that are left of the first `end` of a buffer, so many
   module _ (buf : List ℕ) (end : ℕ) (inside : end ≤ length buf) (left : ℕ) (many : left ≡ length (walk_of walk start (take end buf)).rest) where
     suffix : Suffix (take end buf) (walk_of walk start (take end buf)).rest
-    suffix = walk-rest walk sound start (take end buf)
+    suffix = walk_rest walk sound start (take end buf)
 
     skipped : left + suffix.skip ≡ end
     skipped =
         let so : left ≡ length (take end buf) - suffix.skip = many ∙ ap length (sym suffix.is) ∙ length-drop suffix.skip (take end buf) in
-        omega (arith, suffix.inside, part-size buf end inside)
+        omega (arith, suffix.inside, part_size buf end inside)
 
     -- are within them
-    pub rest-inside : left ≤ end
-    rest-inside = omega (arith, skipped)
+    pub rest_inside : left ≤ end
+    rest_inside = omega (arith, skipped)
 
-    pub rest-room : end - left + left ≤ length buf
-    rest-room = omega (arith, rest-inside)
+    pub rest_room : end - left + left ≤ length buf
+    rest_room = omega (arith, rest_inside)
 
     -- and are their end
-    rest-there : take left (drop (end - left) buf) ≡ (walk_of walk start (take end buf)).rest
-    rest-there =
+    rest_there : take left (drop (end - left) buf) ≡ (walk_of walk start (take end buf)).rest
+    rest_there =
         let from : ℕ = end - left in
         let all : from + left ≡ end = omega (arith, skipped) in
         let skip : suffix.skip ≡ from = omega (arith, skipped) in
-        sym (rw all at (drop-take from left buf (omega arith))) ∙ rw skip at suffix.is
+        sym (rw all at (drop_take from left buf (omega arith))) ∙ rw skip at suffix.is
 
     -- so where they were moved, they stand at the buffer's front
-    pub rest-moved : (buf' : List ℕ) → Moved buf (end - left) left buf' → take left buf' ≡ (walk_of walk start (take end buf)).rest
-    rest-moved buf' moved = moved_front buf (end - left) left buf' (omega (arith, rest-inside)) moved ∙ rest-there
+    pub rest_moved : (buf' : List ℕ) → Moved buf (end - left) left buf' → take left buf' ≡ (walk_of walk start (take end buf)).rest
+    rest_moved buf' moved = moved_front buf (end - left) left buf' (omega (arith, rest_inside)) moved ∙ rest_there
 
   -- where the walk waits for more, what is left is less than what any item needs
   module _ (most : ℕ) (few : (s : S) (l : List ℕ) → walk.cut s l ≡ waits → length l < most) where
-    waiting-short : (s : S) (l : List ℕ) → Stopped walk s l waiting → length l < most
-    waiting-short s l (short e) = few s l e
+    waiting_short : (s : S) (l : List ℕ) → Stopped walk s l waiting → length l < most
+    waiting_short s l (short e) = few s l e
 
-    pub left-short : (l : List ℕ) (left : ℕ) (ended : Ended R) → left ≡ length (walk_of walk start l).rest → ended ≡ (walk_of walk start l).ended → ended ≡ waiting → left < most
-    left-short l left ended many is e =
-        rw many (waiting-short (walk_of walk start l).state (walk_of walk start l).rest (rw (← is, e) at (walk-stopped walk sound start l)))
+    pub left_short : (l : List ℕ) (left : ℕ) (ended : Ended R) → left ≡ length (walk_of walk start l).rest → ended ≡ (walk_of walk start l).ended → ended ≡ waiting → left < most
+    left_short l left ended many is e =
+        rw many (waiting_short (walk_of walk start l).state (walk_of walk start l).rest (rw (← is, e) at (walk_stopped walk sound start l)))
 
 -- THE SAME of what a function promises
 module _ {S I R : Type 0} (walk : Walk S I R) (growth : ℕ) (start : S) (buf : List ℕ) (end : ℕ) (inside : end ≤ length buf) (out out' : List ℕ) (state : S) (left to : ℕ) (ended : Ended R)
     (so : Scanned walk growth start (take end buf) out 0 out' state left to ended) (sound : Sound walk) where
   -- what is left is within the piece
-  pub left-inside : left ≤ end
-  left-inside = rest-inside walk sound start buf end inside left so.left_is
+  pub left_inside : left ≤ end
+  left_inside = rest_inside walk sound start buf end inside left so.left_is
 
-  pub left-room : end - left + left ≤ length buf
-  left-room = rest-room walk sound start buf end inside left so.left_is
+  pub left_room : end - left + left ≤ length buf
+  left_room = rest_room walk sound start buf end inside left so.left_is
 
 -- and then stands at the buffer's front
-pub kept-rest : {S I R : Type 0} (walk : Walk S I R) → Sound walk → (growth : ℕ) (start : S) (buf : List ℕ) (end : ℕ) → end ≤ length buf → (out buf' out' : List ℕ) (state : S) (left to : ℕ) (ended : Ended R)
+pub kept_rest : {S I R : Type 0} (walk : Walk S I R) → Sound walk → (growth : ℕ) (start : S) (buf : List ℕ) (end : ℕ) → end ≤ length buf → (out buf' out' : List ℕ) (state : S) (left to : ℕ) (ended : Ended R)
     → Turned walk growth start buf end out buf' out' state left to ended → take left buf' ≡ (walk_of walk start (take end buf)).rest
-kept-rest walk sound growth start buf end inside out buf' out' state left to ended turned = rest-moved walk sound start buf end inside left turned.listed.left_is buf' turned.kept
+kept_rest walk sound growth start buf end inside out buf' out' state left to ended turned = rest_moved walk sound start buf end inside left turned.listed.left_is buf' turned.kept
 
 -- the text is within the buffer
-pub text-inside : {S I R : Type 0} (walk : Walk S I R) (growth : ℕ) (start : S) (buf : List ℕ) (end : ℕ) (out buf' out' : List ℕ) (state : S) (left to : ℕ) (ended : Ended R)
+pub text_inside : {S I R : Type 0} (walk : Walk S I R) (growth : ℕ) (start : S) (buf : List ℕ) (end : ℕ) (out buf' out' : List ℕ) (state : S) (left to : ℕ) (ended : Ended R)
     → Turned walk growth start buf end out buf' out' state left to ended → to ≤ length out'
-text-inside walk growth start buf end out buf' out' state left to ended turned = omega (arith, turned.listed.put.fits, turned.listed.put.kept)
+text_inside walk growth start buf end out buf' out' state left to ended turned = omega (arith, turned.listed.put.fits, turned.listed.put.kept)

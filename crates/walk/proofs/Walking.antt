@@ -7,17 +7,17 @@ use native.Mathlib.Nat.{le_refl}
 use native.Mathlib.Omega.{arith}
 use lib.ListN.{length, drop, length-drop}
 use lib.Seq.{drop-drop}
-use Rattle.walk.specs.Walks.{Front, whole, stops, waits, Walk, Ended, waiting, stopped, Walked, halt, behind, walkAt, walkIn, walk_of}
+use Rattle.walk.specs.Walks.{Front, whole, stops, waits, Walk, Ended, waiting, stopped, Walked, halt, behind, walk_at, walk_in, walk_of}
 
 -- what a walk has to be: an item has bytes, which are there; what stands at the front, and what is made of it, stays whatever follows, unless it waits
 pub record Sound {S I R : Type 0} (walk : Walk S I R) : Type 0 where
   pub some : (s : S) (l : List ℕ) (i : I) → walk.cut s l ≡ whole i → 0 < walk.size i
   pub there : (s : S) (l : List ℕ) (i : I) → walk.cut s l ≡ whole i → walk.size i ≤ length l
   pub none : (s : S) → walk.cut s [] ≡ waits
-  pub whole-stays : (s : S) (l f : List ℕ) (i : I) → walk.cut s l ≡ whole i → walk.cut s (l ++ f) ≡ whole i
-  pub stop-stays : (s : S) (l f : List ℕ) (why : R) → walk.cut s l ≡ stops why → walk.cut s (l ++ f) ≡ stops why
-  pub next-stays : (s : S) (l f : List ℕ) (i : I) → walk.cut s l ≡ whole i → walk.next s i (l ++ f) ≡ walk.next s i l
-  pub text-stays : (s : S) (l f : List ℕ) (i : I) → walk.cut s l ≡ whole i → walk.text s i (l ++ f) ≡ walk.text s i l
+  pub whole_stays : (s : S) (l f : List ℕ) (i : I) → walk.cut s l ≡ whole i → walk.cut s (l ++ f) ≡ whole i
+  pub stop_stays : (s : S) (l f : List ℕ) (why : R) → walk.cut s l ≡ stops why → walk.cut s (l ++ f) ≡ stops why
+  pub next_stays : (s : S) (l f : List ℕ) (i : I) → walk.cut s l ≡ whole i → walk.next s i (l ++ f) ≡ walk.next s i l
+  pub text_stays : (s : S) (l f : List ℕ) (i : I) → walk.cut s l ≡ whole i → walk.text s i (l ++ f) ≡ walk.text s i l
 
 -- where no item is taken any more
 pub data Stopped {S I R : Type 0} (walk : Walk S I R) (s : S) (l : List ℕ) : Ended R → Type 0 where
@@ -38,7 +38,7 @@ module _ {S I R : Type 0} (walk : Walk S I R) (sound : Sound walk) where
   abbrev Same : S → List ℕ → Front I R → Type 0
   Same s l front =
       (more other : S → List ℕ → Walked S R) → ((t : S) (i : I) → front ≡ whole i → more t (drop (walk.size i) l) ≡ other t (drop (walk.size i) l))
-      → walkAt walk s l front more ≡ walkAt walk s l front other
+      → walk_at walk s l front more ≡ walk_at walk s l front other
 
   -- what is done with the bytes after the first item matters only there
   at_same : (s : S) (l : List ℕ) (front : Front I R) → Same s l front
@@ -46,7 +46,7 @@ module _ {S I R : Type 0} (walk : Walk S I R) (sound : Sound walk) where
   at_same s l (stops why) more other same = refl
   at_same s l waits more other same = refl
 
-  none_in : (most : ℕ) (s : S) (l : List ℕ) → length l ≤ 0 → walkIn walk most s l ≡ halt s l waiting
+  none_in : (most : ℕ) (s : S) (l : List ℕ) → length l ≤ 0 → walk_in walk most s l ≡ halt s l waiting
   none_in zero s l h = refl
   none_in (suc most) s l h = rw (no_bytes l h, sound.none s)
 
@@ -54,27 +54,27 @@ module _ {S I R : Type 0} (walk : Walk S I R) (sound : Sound walk) where
   shorter s l i e = omega (arith, sound.some s l i e, sound.there s l i e, length-drop (walk.size i) l)
 
   -- as many items as there are bytes are enough
-  enough : (j k : ℕ) (s : S) (l : List ℕ) → length l ≤ j → length l ≤ k → walkIn walk j s l ≡ walkIn walk k s l
+  enough : (j k : ℕ) (s : S) (l : List ℕ) → length l ≤ j → length l ≤ k → walk_in walk j s l ≡ walk_in walk k s l
   enough zero k s l a b = sym (none_in k s l a)
   enough (suc j) zero s l a b = none_in (suc j) s l b
   enough (suc j) (suc k) s l a b =
-      at_same s l (walk.cut s l) (walkIn walk j) (walkIn walk k)
+      at_same s l (walk.cut s l) (walk_in walk j) (walk_in walk k)
       (λ t i e. enough j k t (drop (walk.size i) l) (omega (arith, shorter s l i e)) (omega (arith, shorter s l i e)))
 
   module _ (s : S) (l : List ℕ) where
-    walk-next : walk_of walk s l ≡ walkAt walk s l (walk.cut s l) (walk_of walk)
+    walk_next : walk_of walk s l ≡ walk_at walk s l (walk.cut s l) (walk_of walk)
     unfolding walk_of
-    walk-next =
+    walk_next =
         enough (length l) (suc (length l)) s l (le_refl (length l)) (omega arith)
-        ∙ at_same s l (walk.cut s l) (walkIn walk (length l)) (λ t m. walkIn walk (length m) t m)
+        ∙ at_same s l (walk.cut s l) (walk_in walk (length l)) (λ t m. walk_in walk (length m) t m)
         (λ t i e. enough (length l) (length (drop (walk.size i) l)) t (drop (walk.size i) l) (omega (arith, shorter s l i e)) (le_refl (length (drop (walk.size i) l))))
 
-    pub walk-stops : (ended : Ended R) → Stopped walk s l ended → walk_of walk s l ≡ halt s l ended
-    walk-stops ended (halted e) = walk-next ∙ rw e
-    walk-stops ended (short e) = walk-next ∙ rw e
+    pub walk_stops : (ended : Ended R) → Stopped walk s l ended → walk_of walk s l ≡ halt s l ended
+    walk_stops ended (halted e) = walk_next ∙ rw e
+    walk_stops ended (short e) = walk_next ∙ rw e
 
-    pub walk-takes : (i : I) → walk.cut s l ≡ whole i → walk_of walk s l ≡ behind (walk.text s i l) (walk_of walk (walk.next s i l) (drop (walk.size i) l))
-    walk-takes i e = walk-next ∙ rw e
+    pub walk_takes : (i : I) → walk.cut s l ≡ whole i → walk_of walk s l ≡ behind (walk.text s i l) (walk_of walk (walk.next s i l) (drop (walk.size i) l))
+    walk_takes i e = walk_next ∙ rw e
 
   -- what holds where no item is taken, and of some bytes where it holds of those after their first item, holds of all
   module _ (P : S → List ℕ → Type 0)
@@ -89,22 +89,22 @@ module _ {S I R : Type 0} (walk : Walk S I R) (sound : Sound walk) where
         by (stops why) e more = stopping s l (stopped why) (halted e)
         by waits e more = stopping s l waiting (short e)
 
-    pub by-items : (s : S) (l : List ℕ) → P s l
-    by-items s l = within (length l) s l (le_refl (length l))
+    pub by_items : (s : S) (l : List ℕ) → P s l
+    by_items s l = within (length l) s l (le_refl (length l))
 
   -- what is left when nothing more is taken
-  pub walk-stopped : (s : S) (l : List ℕ) → Stopped walk (walk_of walk s l).state (walk_of walk s l).rest (walk_of walk s l).ended
-  walk-stopped =
-      by-items (λ s l. Stopped walk (walk_of walk s l).state (walk_of walk s l).rest (walk_of walk s l).ended)
-      (λ s l ended so. rw (walk-stops s l ended so) so)
-      (λ s l i e more. rw (walk-takes s l i e) more)
+  pub walk_stopped : (s : S) (l : List ℕ) → Stopped walk (walk_of walk s l).state (walk_of walk s l).rest (walk_of walk s l).ended
+  walk_stopped =
+      by_items (λ s l. Stopped walk (walk_of walk s l).state (walk_of walk s l).rest (walk_of walk s l).ended)
+      (λ s l ended so. rw (walk_stops s l ended so) so)
+      (λ s l i e more. rw (walk_takes s l i e) more)
 
-  pub walk-rest : (s : S) (l : List ℕ) → Suffix l (walk_of walk s l).rest
-  walk-rest =
-      by-items (λ s l. Suffix l (walk_of walk s l).rest)
-      (λ s l ended so. record { skip = 0; inside = zero-le; is = rw (walk-stops s l ended so) })
+  pub walk_rest : (s : S) (l : List ℕ) → Suffix l (walk_of walk s l).rest
+  walk_rest =
+      by_items (λ s l. Suffix l (walk_of walk s l).rest)
+      (λ s l ended so. record { skip = 0; inside = zero-le; is = rw (walk_stops s l ended so) })
       (λ s l i e more. record {
         skip = walk.size i + more.skip;
         inside = omega (arith, more.inside, sound.there s l i e, length-drop (walk.size i) l);
-        is = sym (drop-drop more.skip (walk.size i) l) ∙ rw (walk-takes s l i e) more.is;
+        is = sym (drop-drop more.skip (walk.size i) l) ∙ rw (walk_takes s l i e) more.is;
       })

@@ -7,7 +7,7 @@ use Rattle.walk.specs.Walks.{Walk, Ended, walk_of}
 
 -- some bytes were walked over: what is kept, the text, which takes at most `growth` bytes for each, how many bytes are left, and how it ended
 pub record Scanned {S I R : Type 0} (walk : Walk S I R) (growth : ℕ) (start : S) (l before : List ℕ) (at : ℕ) (after : List ℕ) (state : S) (left to : ℕ) (ended : Ended R) : Type 0 where
-  pub state-is : state ≡ (walk_of walk start l).state
+  pub state_is : state ≡ (walk_of walk start l).state
   pub put : Put before at (walk_of walk start l).text after to
   pub short : to ≤ at + growth * length l
   pub left_is : left ≡ length (walk_of walk start l).rest

@@ -37,13 +37,13 @@ abbrev pub preceded : {T : Type 0} → List ℕ → Closed T → Closed T
 preceded text c = record { text = text ++ c.text; told = c.told }
 
 -- whether so many bytes that are left are cut
-abbrev pub cutWith : ℕ → Bool
-cutWith left = ltb 0 left
+abbrev pub cut_with : ℕ → Bool
+cut_with left = ltb 0 left
 
 module _ {S R : Type 0} where
   -- the last lines, after `cut` where bytes are left
-  abbrev pub closedBy : (S → Bool → List ℕ) → S → Ended R → List ℕ → Closed (Unit {0})
-  closedBy closing s ended rest = record { text = closing s (cutWith (length rest)); told = tt }
+  abbrev pub closed_by : (S → Bool → List ℕ) → S → Ended R → List ℕ → Closed (Unit {0})
+  closed_by closing s ended rest = record { text = closing s (cut_with (length rest)); told = tt }
 
   -- no item is taken
   abbrev pub halt : S → List ℕ → Ended R → Walked S R
@@ -55,30 +55,30 @@ module _ {S R : Type 0} where
 
   module _ {T : Type 0} (closing : S → Ended R → List ℕ → Closed T) where
     -- a whole input: its text, and the close
-    abbrev pub toldOf : Walked S R → Closed T
-    toldOf w = preceded w.text (closing w.state w.ended w.rest)
+    abbrev pub told_of : Walked S R → Closed T
+    told_of w = preceded w.text (closing w.state w.ended w.rest)
 
     -- a piece of one: its text; then the close where the walk stopped, or the pieces that follow
-    abbrev pub goesOn : Walked S R → (S → List ℕ → Closed T) → Ended R → Closed T
-    goesOn w next (stopped why) = preceded w.text (closing w.state (stopped why) w.rest)
-    goesOn w next waiting = preceded w.text (next w.state w.rest)
+    abbrev pub goes_on : Walked S R → (S → List ℕ → Closed T) → Ended R → Closed T
+    goes_on w next (stopped why) = preceded w.text (closing w.state (stopped why) w.rest)
+    goes_on w next waiting = preceded w.text (next w.state w.rest)
 
 module _ {S I R : Type 0} (walk : Walk S I R) where
-  abbrev pub walkAt : S → List ℕ → Front I R → (S → List ℕ → Walked S R) → Walked S R
-  walkAt s l (whole i) more = behind (walk.text s i l) (more (walk.next s i l) (drop (walk.size i) l))
-  walkAt s l (stops why) more = halt s l (stopped why)
-  walkAt s l waits more = halt s l waiting
+  abbrev pub walk_at : S → List ℕ → Front I R → (S → List ℕ → Walked S R) → Walked S R
+  walk_at s l (whole i) more = behind (walk.text s i l) (more (walk.next s i l) (drop (walk.size i) l))
+  walk_at s l (stops why) more = halt s l (stopped why)
+  walk_at s l waits more = halt s l waiting
 
   -- at most so many items, one after the other
-  abbrev pub walkIn : ℕ → S → List ℕ → Walked S R
-  walkIn zero s l = halt s l waiting
-  walkIn (suc most) s l = walkAt s l (walk.cut s l) (walkIn most)
+  abbrev pub walk_in : ℕ → S → List ℕ → Walked S R
+  walk_in zero s l = halt s l waiting
+  walk_in (suc most) s l = walk_at s l (walk.cut s l) (walk_in most)
 
   -- all of them: there are no more items than bytes
   unfoldable pub walk_of : S → List ℕ → Walked S R
-  walk_of s l = walkIn (length l) s l
+  walk_of s l = walk_in (length l) s l
 
   -- an input that comes in pieces: what is left of a piece is kept for the next
-  abbrev pub fedOf : {T : Type 0} → (S → Ended R → List ℕ → Closed T) → S → List ℕ → List (List ℕ) → Closed T
-  fedOf closing s kept [] = closing s waiting kept
-  fedOf closing s kept (piece ∷ pieces) = goesOn closing (walk_of s (kept ++ piece)) (λ t k. fedOf closing t k pieces) (walk_of s (kept ++ piece)).ended
+  abbrev pub fed_of : {T : Type 0} → (S → Ended R → List ℕ → Closed T) → S → List ℕ → List (List ℕ) → Closed T
+  fed_of closing s kept [] = closing s waiting kept
+  fed_of closing s kept (piece ∷ pieces) = goes_on closing (walk_of s (kept ++ piece)) (λ t k. fed_of closing t k pieces) (walk_of s (kept ++ piece)).ended

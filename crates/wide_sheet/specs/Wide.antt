@@ -11,5 +11,5 @@ held sheet = record { sources = sheet.sources; refusals = sheet.refusals }
 abbrev pub widened : Sheet → WideSheet
 widened sheet = record { sources = sheet.sources; refusals = sheet.refusals }
 
-abbrev pub wideOffered : Offered → WideOffered
-wideOffered offered = record { read = offered.read; sheet = widened offered.sheet }
+abbrev pub wide_offered : Offered → WideOffered
+wide_offered offered = record { read = offered.read; sheet = widened offered.sheet }

@@ -2,11 +2,11 @@
 ghost use Rattle.std.specs.Prelude.{◌≡◌, ◌*◌, ◌<◌, ◌≤◌};
 ghost use Rattle.word.specs.Repairs.{syndromes};
 ghost use Rattle.frame.specs.Frames.{frame};
-ghost use Rattle.source.specs.Records.{countLimit};
-ghost use Rattle.source.specs.Lanes.{lanes, recordOf};
-ghost use Rattle.source.specs.Counts.{refusalCounts};
-ghost use Rattle.sheet.specs.Sheets.{recordsOf, newSheet, acceptOf, acceptedOf, refusedOf, heardOf, fullSheet, full_of, sameEdition, offerOf, displayOf};
-ghost use Rattle.wide_sheet.specs.Wide.{held, widened, wideOffered};
+ghost use Rattle.source.specs.Records.{count_limit};
+ghost use Rattle.source.specs.Lanes.{lanes, record_of};
+ghost use Rattle.source.specs.Counts.{refusal_counts};
+ghost use Rattle.sheet.specs.Sheets.{records_of, new_sheet, accept_of, accepted_of, refused_of, heard_of, full_sheet, full_of, same_edition, offer_of, display_of};
+ghost use Rattle.wide_sheet.specs.Wide.{held, widened, wide_offered};
 
 use air::WORD_COUNT;
 use base::{Edition, OTHER_EDITION, Refusal, SHEET_FULL};
@@ -34,7 +34,7 @@ pub struct WideOffered {
 
 // A sheet that was offered nothing.
 pub fn new_wide_sheet() -> WideSheet
-    ensures { result ≡ widened (newSheet Edition.Corrected) }
+    ensures { result ≡ widened (new_sheet Edition.Corrected) }
 {
     let source = source::never_heard();
     WideSheet {
@@ -45,8 +45,8 @@ pub fn new_wide_sheet() -> WideSheet
 
 // The sheet after an accepted frame.
 fn accept_wide(sheet: WideSheet, header: Header, flips: u32) -> WideSheet
-    requires { recordOf header < recordsOf Edition.Corrected }
-    ensures { result ≡ widened (acceptOf (held sheet) header flips) }
+    requires { record_of header < records_of Edition.Corrected }
+    ensures { result ≡ widened (accept_of (held sheet) header flips) }
 {
     let mut after = sheet;
     let k = header.fields.src_id as usize;
@@ -58,7 +58,7 @@ fn accept_wide(sheet: WideSheet, header: Header, flips: u32) -> WideSheet
 
 // The numbers of any source. One without a record has those of a source that was never heard.
 pub fn display_of_wide(sheet: WideSheet, source: u8) -> Display
-    ensures { result ≡ displayOf Edition.Corrected (held sheet) source }
+    ensures { result ≡ display_of Edition.Corrected (held sheet) source }
 {
     let k = source as usize;
     if WIDE_RECORDS <= k {
@@ -70,8 +70,8 @@ pub fn display_of_wide(sheet: WideSheet, source: u8) -> Display
 
 // Frames accepted over all sources.
 pub fn accepted_wide(sheet: WideSheet) -> u64
-    ensures value { result ≡ acceptedOf Edition.Corrected (held sheet) }
-    ensures upper_bound { result ≤ recordsOf Edition.Corrected * (lanes * countLimit) }
+    ensures value { result ≡ accepted_of Edition.Corrected (held sheet) }
+    ensures upper_bound { result ≤ records_of Edition.Corrected * (lanes * count_limit) }
 {
     let mut sum: u64 = 0;
     let mut k = 0;
@@ -85,8 +85,8 @@ pub fn accepted_wide(sheet: WideSheet) -> u64
 
 // Frames refused over all numbers.
 pub fn refused_wide(sheet: WideSheet) -> u64
-    ensures value { result ≡ refusedOf (held sheet) }
-    ensures upper_bound { result ≤ refusalCounts * countLimit }
+    ensures value { result ≡ refused_of (held sheet) }
+    ensures upper_bound { result ≤ refusal_counts * count_limit }
 {
     let counts = sheet.refusals;
     source::total(counts)
@@ -94,7 +94,7 @@ pub fn refused_wide(sheet: WideSheet) -> u64
 
 // Frames offered so far.
 pub fn heard_wide(sheet: WideSheet) -> u64
-    ensures { result ≡ heardOf Edition.Corrected (held sheet) }
+    ensures { result ≡ heard_of Edition.Corrected (held sheet) }
 {
     accepted_wide(sheet) + refused_wide(sheet)
 }
@@ -108,7 +108,7 @@ pub fn full_wide(sheet: WideSheet) -> bool
 
 // Whether an edition is the sheet's own.
 fn is_own(edition: Edition) -> bool
-    ensures { result ≡ sameEdition edition Edition.Corrected }
+    ensures { result ≡ same_edition edition Edition.Corrected }
 {
     match edition {
         Edition::Flown => false,
@@ -125,9 +125,9 @@ fn take_wide_in(
     payload: &[u8],
 ) -> WideOffered
     requires table_value { table.now ≡ syndromes }
-    requires sheet_bound { heardOf Edition.Corrected (held sheet) < fullSheet }
+    requires sheet_bound { heard_of Edition.Corrected (held sheet) < full_sheet }
     requires edition_value { rules.edition ≡ Edition.Corrected }
-    ensures { result ≡ wideOffered (offerOf Edition.Corrected (held sheet) (frame rules air.now payload.now)) }
+    ensures { result ≡ wide_offered (offer_of Edition.Corrected (held sheet) (frame rules air.now payload.now)) }
 {
     let read = frame::read_frame_in(table, rules, air, payload);
     let answer = read.answer;
@@ -148,7 +148,7 @@ fn take_wide_in(
 
 // A frame offered to any wide sheet, as `offer` does it with the other one.
 pub fn offer_wide(sheet: WideSheet, rules: Rules, air: &[u8], payload: &[u8]) -> WideOffered
-    ensures { result ≡ wideOffered (offerOf Edition.Corrected (held sheet) (frame rules air.now payload.now)) }
+    ensures { result ≡ wide_offered (offer_of Edition.Corrected (held sheet) (frame rules air.now payload.now)) }
 {
     let edition = rules.edition;
     let own = is_own(edition);

@@ -7,44 +7,44 @@ use native.Mathlib.Omega.{arith}
 use lib.Bits.{bit_xor, xor_lt}
 use lib.Count.{ones}
 use borrow.Author.Tests.{le-leb, lt-leb}
-use Rattle.base.proofs.Ones.{ones-in}
+use Rattle.base.proofs.Ones.{ones_in_lem}
 use Rattle.base.proofs.Lowest.{Passed, starts, goes_on}
 use Rattle.word.specs.declared.Repaired.{Repaired}
 use Rattle.word.specs.declared.Repaired.TheVariants.{Word, Beyond}
-use Rattle.word.specs.Words.{wordLimit, multipleOf, Valid, distance}
-use Rattle.word.specs.Repairs.{Close, within, repairOf}
-use Rattle.word.proofs.Valids.{valid-lt}
-use Rattle.word.proofs.Answer.{repair-close, repair-far}
+use Rattle.word.specs.Words.{word_limit, multiple_of, Valid, distance}
+use Rattle.word.specs.Repairs.{Close, within, repair_of}
+use Rattle.word.proofs.Valids.{valid_lt}
+use Rattle.word.proofs.Answer.{repair_close, repair_far}
 
 -- nothing is found yet, and none of the valid words before q is within three
 pub record Searched (w : ℕ) (found : Repaired) (q : ℕ) : Type 0 where
   pub nothing : found ≡ Beyond
   pub passed : Passed 32 (within w) q
 
-pub search-starts : (w : ℕ) → Searched w Beyond 0
-search-starts w = record { nothing = refl; passed = starts 32 (within w) }
+pub search_starts : (w : ℕ) → Searched w Beyond 0
+search_starts w = record { nothing = refl; passed = starts 32 (within w) }
 
-module _ (w : ℕ) (found : Repaired) (q v : ℕ) (below : w < wordLimit) (so : Searched w found q) (more : q < 32) (is : v ≡ multipleOf q) where
+module _ (w : ℕ) (found : Repaired) (q v : ℕ) (below : w < word_limit) (so : Searched w found q) (more : q < 32) (is : v ≡ multiple_of q) where
   valid : Valid v
   valid = record { multiplier = q; small = more; is = sym is }
 
   counted : ones (bit_xor w v) ≡ distance w v
   unfolding distance
-  counted = ones-in 15 (bit_xor w v) (xor_lt 15 w v below (valid-lt valid))
+  counted = ones_in_lem 15 (bit_xor w v) (xor_lt 15 w v below (valid_lt valid))
 
-  pub search-goes-on : 3 < ones (bit_xor w v) → Searched w found (q + 1)
-  search-goes-on far = record {
+  pub search_goes_on : 3 < ones (bit_xor w v) → Searched w found (q + 1)
+  search_goes_on far = record {
     nothing = so.nothing;
-    passed = goes_on 32 (within w) q so.passed more (lt-leb (distance w (multipleOf q)) 3 (rw (← is) (rw counted at far)));
+    passed = goes_on 32 (within w) q so.passed more (lt-leb (distance w (multiple_of q)) 3 (rw (← is) (rw counted at far)));
   }
 
-  pub search-stops : ones (bit_xor w v) ≤ 3 → Word v (bit_xor w v) ≡ repairOf w
-  search-stops near = sym (repair-close w v below (record { valid = valid; near = rw counted at near }))
+  pub search_stops : ones (bit_xor w v) ≤ 3 → Word v (bit_xor w v) ≡ repair_of w
+  search_stops near = sym (repair_close w v below (record { valid = valid; near = rw counted at near }))
 
-pub search-ends : (w : ℕ) (found : Repaired) (q : ℕ) → w < wordLimit → Searched w found q → 32 ≤ q → found ≡ repairOf w
-search-ends w found q below so h = so.nothing ∙ sym (repair-far w below never)
+pub search_ends : (w : ℕ) (found : Repaired) (q : ℕ) → w < word_limit → Searched w found q → 32 ≤ q → found ≡ repair_of w
+search_ends w found q below so h = so.nothing ∙ sym (repair_far w below never)
   where
     never : (v : ℕ) → Close w v → ⊥
     never v c =
-        true≢false (sym (le-leb (distance w (multipleOf c.valid.multiplier)) 3 (rw c.valid.is c.near))
+        true≢false (sym (le-leb (distance w (multiple_of c.valid.multiplier)) 3 (rw c.valid.is c.near))
         ∙ so.passed.before c.valid.multiplier (omega (arith, c.valid.small)))

@@ -1,7 +1,7 @@
 // One coded word: the 32 valid words, the plain search for the nearest of them, and repair by the syndrome table.
 ghost use Rattle.std.specs.Prelude.{◌≡◌, ◌<◌};
-ghost use Rattle.word.specs.Words.{wordLimit, validCount, multipleOf, encodeOf};
-ghost use Rattle.word.specs.Repairs.{remainderOf, repairOf, syndromes};
+ghost use Rattle.word.specs.Words.{word_limit, valid_count, multiple_of, encode_of};
+ghost use Rattle.word.specs.Repairs.{remainder_of, repair_of, syndromes};
 
 pub mod table;
 
@@ -28,7 +28,7 @@ pub enum Repaired {
 
 // The multiple of 0x537 with the multiplier q: 0x537 times x^k for each coefficient k of q, of which five count.
 fn multiple(q: u16) -> u16
-    ensures { result ≡ multipleOf q }
+    ensures { result ≡ multiple_of q }
 {
     (q % 2 * 0x537)
         ^ (q / 2 % 2 * 0xA6E)
@@ -39,8 +39,8 @@ fn multiple(q: u16) -> u16
 
 // The valid word of five data bits: the sum of the valid words of the single bits.
 pub fn encode(d: u16) -> u16
-    requires { d < validCount }
-    ensures { result ≡ encodeOf d }
+    requires { d < valid_count }
+    ensures { result ≡ encode_of d }
 {
     (d % 2 * 0x537)
         ^ (d / 2 % 2 * 0xA6E)
@@ -51,7 +51,7 @@ pub fn encode(d: u16) -> u16
 
 // The plain search: the 32 valid words one after the other, up to the first within three.
 pub fn search(w: u16) -> Repaired
-    ensures { result ≡ repairOf w }
+    ensures { result ≡ repair_of w }
 {
     if WORD_LIMIT <= w {
         return Repaired::Beyond;
@@ -72,8 +72,8 @@ pub fn search(w: u16) -> Repaired
 
 // The remainder of a word modulo 0x537, which names its row in the table.
 fn remainder(w: u16) -> u16
-    requires { w < wordLimit }
-    ensures { result ≡ remainderOf w }
+    requires { w < word_limit }
+    ensures { result ≡ remainder_of w }
 {
     w ^ encode(w / DATA_BIT)
 }
@@ -81,7 +81,7 @@ fn remainder(w: u16) -> u16
 // Repair by a lent copy of the table: what a caller with many words copies once.
 pub fn repair_in(table: &[u16; TABLE_ROWS], w: u16) -> Repaired
     requires { table.now ≡ syndromes }
-    ensures { result ≡ repairOf w }
+    ensures { result ≡ repair_of w }
 {
     if WORD_LIMIT <= w {
         return Repaired::Beyond;
@@ -98,7 +98,7 @@ pub fn repair_in(table: &[u16; TABLE_ROWS], w: u16) -> Repaired
 
 // Repair of one word. The constant table is stored anew at each use, so it is copied once and lent.
 pub fn repair(w: u16) -> Repaired
-    ensures { result ≡ repairOf w }
+    ensures { result ≡ repair_of w }
 {
     let copy = table::whole();
     repair_in(&copy, w)

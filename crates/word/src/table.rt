@@ -1,6 +1,6 @@
 // The syndrome table: the flip patterns of words, by their remainder modulo 0x537.
 ghost use Rattle.std.specs.Prelude.{◌≡◌, ◌<◌};
-ghost use Rattle.word.specs.Repairs.{row_of, tableRows, syndromes};
+ghost use Rattle.word.specs.Repairs.{row_of, table_rows, syndromes};
 
 // The rows: one for each remainder.
 pub const TABLE_ROWS: usize = 1024;
@@ -18,7 +18,7 @@ pub fn whole() -> [u16; TABLE_ROWS]
 // The row of a remainder in a lent copy.
 pub fn row_in(table: &[u16; TABLE_ROWS], r: u16) -> u16
     requires table_value { table.now ≡ syndromes }
-    requires r_lt_table_rows { r < tableRows }
+    requires r_lt_table_rows { r < table_rows }
     ensures { result ≡ row_of r }
 {
     table[r as usize]

@@ -1,8 +1,8 @@
 // Writes one record: started with an edition and fourteen numbers, those of fields 0 to 13, it takes standard input as the payload and writes the record to
 // standard output, or tells the refusal on standard error. It moves bytes and does nothing else: the record is that of `record_writer`.
 ghost use Rattle.std.specs.Prelude.{◌≡◌, ◌<◌, length};
-ghost use Rattle.header.specs.Fields.{fieldsFrom};
-ghost use Rattle.write.specs.Bytes.{cappedOf};
+ghost use Rattle.header.specs.Fields.{fields_from};
+ghost use Rattle.write.specs.Bytes.{capped_of};
 
 use base::{Edition, Refusal, Written};
 use header::{FIELD_COUNT, Fields};
@@ -20,7 +20,7 @@ const MORE_THAN_ANY: u32 = 255;
 
 // A number as a byte. What is above 255 counts as 255, and is refused as it would be itself.
 fn capped(n: u32) -> u8
-    ensures { result ≡ cappedOf n }
+    ensures { result ≡ capped_of n }
 {
     if MORE_THAN_ANY < n {
         return MORE_THAN_ANY as u8;
@@ -56,7 +56,7 @@ fn read_words() -> Said {
 
 // Fields 0 to 13 by their names.
 fn fields_of(values: [u8; FIELD_COUNT]) -> Fields
-    ensures { result ≡ fieldsFrom values }
+    ensures { result ≡ fields_from values }
 {
     Fields {
         src_id: values[0],

@@ -1,7 +1,7 @@
 -- `air::counted` meets its contract: the lanes past the patterns change no count.
 -- Assumes nothing.
 use borrow.Author.Rules.{rules}
-use Rattle.air.proofs.CountingFlips.{counts-padded}
+use Rattle.air.proofs.CountingFlips.{counts_padded}
 use Rattle.air.proofs.counted.Statement.{statement}
 use Rattle.air.proofs.counted.Tie as tie
 
@@ -11,4 +11,4 @@ counted_spec =
     (tie.spec
     (λ c κs. search rules)
     (λ c κs. search rules)
-    (λ c. search (rules, counts-padded)))
+    (λ c. search (rules, counts_padded)))

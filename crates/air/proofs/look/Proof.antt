@@ -3,7 +3,7 @@
 use borrow.Author.Rules.{rules}
 use Prim.Native.Nat.{◌-◌}
 use lib.ListN.{length}
-use Rattle.air.proofs.Bits.{Looked, look-starts, look-goes-on, look-stops, look-ends}
+use Rattle.air.proofs.Bits.{Looked, look_starts, look_goes_on, look_stops, look_ends}
 use Rattle.air.proofs.look.Statement.{statement}
 use Rattle.air.proofs.look.Tie as tie
 
@@ -19,10 +19,10 @@ look_spec =
     (tie.spec
     invariant-loop
     decreases-loop
-    (λ c. search (rules, look-starts))
+    (λ c. search (rules, look_starts))
     (λ c. search rules)
-    (λ c. search (rules, look-stops))
+    (λ c. search (rules, look_stops))
     (λ c. search rules)
     (λ c. search rules)
-    (λ c. search (rules, look-goes-on))
-    (λ c. search (rules, look-ends)))
+    (λ c. search (rules, look_goes_on))
+    (λ c. search (rules, look_ends)))

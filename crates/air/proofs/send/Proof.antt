@@ -2,32 +2,32 @@
 -- Assumes nothing.
 use borrow.Author.Rules.{rules}
 use Prim.Native.Nat.{◌-◌}
-use Rattle.base.proofs.Fill.{Filled, fill-starts, fill-goes-on, fill-ends}
-use Rattle.air.specs.Air.{airBits, airBit, airOf}
+use Rattle.base.proofs.Fill.{Filled, fill_starts, fill_goes_on, fill_ends}
+use Rattle.air.specs.Air.{air_bits, air_bit, air_of}
 use Rattle.air.proofs.send.Statement.{statement}
 use Rattle.air.proofs.send.Tie as tie
 
 abbrev invariant-loop : tie.invariant-loop
-invariant-loop out₀ words n₀ out n = Filled (airBit words) airBits out₀ n out
+invariant-loop out₀ words n₀ out n = Filled (air_bit words) air_bits out₀ n out
 
 abbrev decreases-loop : tie.decreases-loop
-decreases-loop out₀ words n₀ out n = airBits - n
+decreases-loop out₀ words n₀ out n = air_bits - n
 
 loop-again : tie.Need-loop-preserved invariant-loop decreases-loop
-unfolding airBit
-loop-again c = search (rules, fill-goes-on)
+unfolding air_bit
+loop-again c = search (rules, fill_goes_on)
 
 returns : tie.Need-returns invariant-loop decreases-loop
-unfolding airOf
-returns c = search (rules, fill-ends)
+unfolding air_of
+returns c = search (rules, fill_ends)
 
-pub send-spec : {M : Type 1} → statement M
-send-spec =
+pub send_spec : {M : Type 1} → statement M
+send_spec =
     tie.close
     (tie.spec
     invariant-loop
     decreases-loop
-    (λ c. search (rules, fill-starts))
+    (λ c. search (rules, fill_starts))
     (λ c. search rules)
     (λ c. search rules)
     (λ c κs. search rules)

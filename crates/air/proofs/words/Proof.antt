@@ -3,39 +3,39 @@
 use borrow.Author.Rules.{rules}
 use Prim.Native.Nat.{◌-◌}
 use lib.Dec.{lit≤}
-use Rattle.base.proofs.Fill.{Filled, fill-starts, fill-goes-on, fill-whole}
-use Rattle.air.specs.Air.{wordCount, word_at, words_of}
-use Rattle.air.proofs.Gathering.{bit-lt, top_lt, top_in}
+use Rattle.base.proofs.Fill.{Filled, fill_starts, fill_goes_on, fill_whole}
+use Rattle.air.specs.Air.{word_count, word_at, words_of}
+use Rattle.air.proofs.Gathering.{bit_lt, top_lt, top_in}
 use Rattle.air.proofs.words.Statement.{statement}
 use Rattle.air.proofs.words.Tie as tie
 
 abbrev invariant-loop : tie.invariant-loop
-invariant-loop air lanes all₀ j₀ all j = Filled (word_at air) wordCount all₀ j all
+invariant-loop air lanes all₀ j₀ all j = Filled (word_at air) word_count all₀ j all
 
 abbrev decreases-loop : tie.decreases-loop
-decreases-loop air lanes all₀ j₀ all j = wordCount - j
+decreases-loop air lanes all₀ j₀ all j = word_count - j
 
 returns : tie.Need-returns invariant-loop decreases-loop
 unfolding words_of
-returns c = search (rules, fill-whole)
+returns c = search (rules, fill_whole)
 
-pub words-spec : {M : Type 1} → statement M
-words-spec =
+pub words_spec : {M : Type 1} → statement M
+words_spec =
     tie.close
     (tie.spec
     invariant-loop
     decreases-loop
     (λ c κs. search rules)
-    (λ c. search (rules, fill-starts))
+    (λ c. search (rules, fill_starts))
     (λ c. search rules)
     (λ c. search rules)
     (λ c. search rules)
     (λ c. search rules)
     (λ c. search rules)
-    (λ c κs. (search (rules, top_lt), (search (rules, bit-lt), lit≤ tt)))
+    (λ c κs. (search (rules, top_lt), (search (rules, bit_lt), lit≤ tt)))
     (λ c. search rules)
     (λ c. search rules)
     (λ c. search rules)
     (λ c. search rules)
-    (λ c. search (rules, fill-goes-on, top_in))
+    (λ c. search (rules, fill_goes_on, top_in))
     returns)

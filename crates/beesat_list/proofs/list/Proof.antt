@@ -3,9 +3,9 @@
 -- Assumes nothing.
 use borrow.Author.Rules.{rules}
 use Rattle.streams.proofs.Rounds.{has_room}
-use Rattle.text.proofs.Sizes.{put-size}
-use Rattle.walk.proofs.Keeping.{text-inside}
-use Rattle.beesat_list.proofs.Rounds.{Counting, starts-counting, counts-on}
+use Rattle.text.proofs.Sizes.{put_size}
+use Rattle.walk.proofs.Keeping.{text_inside}
+use Rattle.beesat_list.proofs.Rounds.{Counting, starts_counting, counts_on}
 use Rattle.beesat_list.proofs.list.Statement.{statement}
 use Rattle.beesat_list.proofs.list.Tie as tie
 
@@ -15,29 +15,29 @@ invariant-loop buf₀ out₀ title counts₀ kept₀ ended₀ turns₀ buf out c
 abbrev decreases-loop : tie.decreases-loop
 decreases-loop buf₀ out₀ title counts₀ kept₀ ended₀ turns₀ buf out counts kept ended turns = turns
 
-pub list-spec : {M : Type 1} → statement M
-list-spec =
+pub list_spec : {M : Type 1} → statement M
+list_spec =
     tie.close
     (tie.spec
     invariant-loop
     decreases-loop
     (λ c κs. search rules)
     (λ c. search rules)
-    (λ c. search (rules, put-size))
+    (λ c. search (rules, put_size))
     (λ c κs. search rules)
     (λ c. search rules)
     (λ c. search rules)
-    (λ c. search (rules, starts-counting))
+    (λ c. search (rules, starts_counting))
     (λ c κs. search (rules, has_room))
     (λ c κs. search rules)
-    (λ c κs. search (rules, text-inside))
+    (λ c κs. search (rules, text_inside))
     (λ c κs. search rules)
     (λ c κs. search rules)
     (λ c. search rules)
-    (λ c. search (rules, counts-on))
+    (λ c. search (rules, counts_on))
     (λ c κs. search rules)
     (λ c. search rules)
-    (λ c. search (rules, put-size))
+    (λ c. search (rules, put_size))
     (λ c κs. search rules)
     (λ c. search rules)
     (λ c. search rules)

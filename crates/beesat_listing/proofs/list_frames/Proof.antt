@@ -13,8 +13,8 @@ invariant-loop piece out₀ at counts₀ used₀ to₀ out counts used to = Coun
 abbrev decreases-loop : tie.decreases-loop
 decreases-loop piece out₀ at counts₀ used₀ to₀ out counts used to = length piece - used
 
-pub list-frames-spec : {M : Type 1} → statement M
-list-frames-spec =
+pub list_frames_spec : {M : Type 1} → statement M
+list_frames_spec =
     tie.close
     (tie.spec
     invariant-loop

@@ -5,8 +5,8 @@ use Rattle.beesat_listing.proofs.Scanning.{takes}
 use Rattle.beesat_listing.proofs.take_frame.Statement.{statement}
 use Rattle.beesat_listing.proofs.take_frame.Tie as tie
 
-pub take-frame-spec : {M : Type 1} → statement M
-take-frame-spec =
+pub take_frame_spec : {M : Type 1} → statement M
+take_frame_spec =
     tie.close
     (tie.spec
     (λ c κs. search rules)

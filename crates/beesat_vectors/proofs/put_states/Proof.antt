@@ -11,8 +11,8 @@ invariant-loop reply₀ states i₀ reply i = Unit {0}
 abbrev decreases-loop : tie.decreases-loop
 decreases-loop reply₀ states i₀ reply i = 16 - i
 
-pub put-states-spec : {M : Type 1} → statement M
-put-states-spec =
+pub put_states_spec : {M : Type 1} → statement M
+put_states_spec =
     tie.close
     (tie.spec
     invariant-loop

@@ -3,15 +3,15 @@
 use borrow.Author.Rules.{rules}
 use lib.Dec.{lit<, lit≤}
 use Rattle.crc.specs.Crc.{poly16}
-use Rattle.crc.proofs.ByTable.{by-table}
+use Rattle.crc.proofs.ByTable.{by_table}
 use Rattle.crc.proofs.byte16_in.Statement.{statement}
 use Rattle.crc.proofs.byte16_in.Tie as tie
 
-pub byte16-in-spec : {M : Type 1} → statement M
-byte16-in-spec =
+pub byte16_in_spec : {M : Type 1} → statement M
+byte16_in_spec =
     tie.close
     (tie.spec
     (λ c. search rules)
     (λ c κs. search rules)
     (λ c. search rules)
-    (λ c. search (rules, by-table 16 poly16 (lit≤ tt) (lit< tt))))
+    (λ c. search (rules, by_table 16 poly16 (lit≤ tt) (lit< tt))))

@@ -3,8 +3,8 @@
 use Prim.Native.Nat.{◌-◌}
 use borrow.Author.Rules.{rules}
 use lib.ListN.{length}
-use Rattle.crc.specs.Crc.{crc13Of}
-use Rattle.crc.proofs.Adding.{Summed, sum-starts, sum-goes-on, sum-ends}
+use Rattle.crc.specs.Crc.{crc13_of}
+use Rattle.crc.proofs.Adding.{Summed, sum_starts, sum_goes_on, sum_ends}
 use Rattle.crc.proofs.crc13_in.Statement.{statement}
 use Rattle.crc.proofs.crc13_in.Tie as tie
 
@@ -16,11 +16,11 @@ decreases-loop steps payload sum₀ at₀ sum at = length payload - at
 
 -- a payload that is short goes in as it is
 returns : tie.Need-returns invariant-loop decreases-loop
-unfolding crc13Of
+unfolding crc13_of
 returns c = search rules
 
-pub crc13-in-spec : {M : Type 1} → statement M
-crc13-in-spec =
+pub crc13_in_spec : {M : Type 1} → statement M
+crc13_in_spec =
     tie.close
     (tie.spec
     invariant-loop
@@ -28,15 +28,15 @@ crc13-in-spec =
     (λ c. search rules)
     (λ c κs. search rules)
     returns
-    (λ c. search (rules, sum-starts))
+    (λ c. search (rules, sum_starts))
     (λ c. search rules)
     (λ c κs. search rules)
     (λ c. search rules)
     (λ c. search rules)
-    (λ c. search (rules, sum-goes-on))
+    (λ c. search (rules, sum_goes_on))
     (λ c. search rules)
     (λ c. search rules)
     (λ c. search rules)
     (λ c. search rules)
     (λ c κs. search rules)
-    (λ c. search (rules, sum-ends)))
+    (λ c. search (rules, sum_ends)))

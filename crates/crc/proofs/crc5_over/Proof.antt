@@ -1,7 +1,7 @@
 -- `crc::crc5_over` meets its contract. Invariant: the last byte is in, and of the others those from i on, the last first.
 -- Assumes nothing.
 use borrow.Author.Rules.{rules}
-use Rattle.crc.proofs.TwoNumbers.{NineIn, nine-starts, nine-goes-on, nine-lt, nine-ends}
+use Rattle.crc.proofs.TwoNumbers.{NineIn, nine_starts, nine_goes_on, nine_lt, nine_ends}
 use Rattle.crc.proofs.crc5_over.Statement.{statement}
 use Rattle.crc.proofs.crc5_over.Tie as tie
 
@@ -11,8 +11,8 @@ invariant-loop hi lo last eight copy crc₀ i₀ crc i = NineIn hi lo i crc
 abbrev decreases-loop : tie.decreases-loop
 decreases-loop hi lo last eight copy crc₀ i₀ crc i = i
 
-pub crc5-over-spec : {M : Type 1} → statement M
-crc5-over-spec =
+pub crc5_over_spec : {M : Type 1} → statement M
+crc5_over_spec =
     tie.close
     (tie.spec
     invariant-loop
@@ -24,13 +24,13 @@ crc5-over-spec =
     (λ c κs. search rules)
     (λ c. search rules)
     (λ c κs. search rules)
-    (λ c. search (rules, nine-starts))
+    (λ c. search (rules, nine_starts))
     (λ c. search rules)
     (λ c. search rules)
     (λ c. search rules)
     (λ c. search rules)
-    (λ c κs. search (rules, nine-lt))
+    (λ c κs. search (rules, nine_lt))
     (λ c. search rules)
     (λ c. search rules)
-    (λ c. search (rules, nine-goes-on))
-    (λ c. search (rules, nine-ends)))
+    (λ c. search (rules, nine_goes_on))
+    (λ c. search (rules, nine_ends)))

@@ -1,7 +1,7 @@
 -- `crc::down13_beside` meets its contract. Invariant: the bytes from i on are in one state, those of the sum from j on in the other.
 -- Assumes nothing.
 use borrow.Author.Rules.{rules}
-use Rattle.crc.proofs.Adding.{Beside, beside-starts, left_lt, right_lt, right-size, beside-goes-on, beside-ends}
+use Rattle.crc.proofs.Adding.{Beside, beside_starts, left_lt, right_lt, right_size, beside_goes_on, beside_ends}
 use Rattle.crc.proofs.down13_beside.Statement.{statement}
 use Rattle.crc.proofs.down13_beside.Tie as tie
 
@@ -11,13 +11,13 @@ invariant-loop steps bytes sum started₀ added₀ i₀ j₀ started added i j =
 abbrev decreases-loop : tie.decreases-loop
 decreases-loop steps bytes sum started₀ added₀ i₀ j₀ started added i j = i
 
-pub down13-beside-spec : {M : Type 1} → statement M
-down13-beside-spec =
+pub down13_beside_spec : {M : Type 1} → statement M
+down13_beside_spec =
     tie.close
     (tie.spec
     invariant-loop
     decreases-loop
-    (λ c. search (rules, beside-starts))
+    (λ c. search (rules, beside_starts))
     (λ c. search rules)
     (λ c. search rules)
     (λ c κs. search (rules, left_lt))
@@ -27,7 +27,7 @@ down13-beside-spec =
     (λ c. search rules)
     (λ c. search rules)
     (λ c. search rules)
-    (λ c. search (rules, beside-goes-on))
-    (λ c. search (rules, right-size))
+    (λ c. search (rules, beside_goes_on))
+    (λ c. search (rules, right_size))
     (λ c κs. search (rules, right_lt))
-    (λ c. search (rules, beside-ends)))
+    (λ c. search (rules, beside_ends)))

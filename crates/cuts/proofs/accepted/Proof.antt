@@ -10,8 +10,8 @@ invariant-loop bits satellite good₀ at₀ n₀ good at n = Unit {0}
 abbrev decreases-loop : tie.decreases-loop
 decreases-loop bits satellite good₀ at₀ n₀ good at n = 64 - n
 
-pub accepted-spec : {M : Type 1} → statement M
-accepted-spec =
+pub accepted_spec : {M : Type 1} → statement M
+accepted_spec =
     tie.close
     (tie.spec
     invariant-loop

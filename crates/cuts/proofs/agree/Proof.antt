@@ -10,8 +10,8 @@ invariant-loop state piece places start n₀ at₀ n at = Unit {0}
 abbrev decreases-loop : tie.decreases-loop
 decreases-loop state piece places start n₀ at₀ n at = 64 - n
 
-pub agree-spec : {M : Type 1} → statement M
-agree-spec =
+pub agree_spec : {M : Type 1} → statement M
+agree_spec =
     tie.close
     (tie.spec
     invariant-loop

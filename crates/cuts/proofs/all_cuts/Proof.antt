@@ -10,8 +10,8 @@ invariant-loop bits places marks same₀ k₀ same k = Unit {0}
 abbrev decreases-loop : tie.decreases-loop
 decreases-loop bits places marks same₀ k₀ same k = length bits - k
 
-pub all-cuts-spec : {M : Type 1} → statement M
-all-cuts-spec =
+pub all_cuts_spec : {M : Type 1} → statement M
+all_cuts_spec =
     tie.close
     (tie.spec
     invariant-loop

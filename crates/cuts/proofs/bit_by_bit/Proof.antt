@@ -10,8 +10,8 @@ invariant-loop bits places state₀ n₀ i₀ state n i = Unit {0}
 abbrev decreases-loop : tie.decreases-loop
 decreases-loop bits places state₀ n₀ i₀ state n i = length bits - i
 
-pub bit-by-bit-spec : {M : Type 1} → statement M
-bit-by-bit-spec =
+pub bit_by_bit_spec : {M : Type 1} → statement M
+bit_by_bit_spec =
     tie.close
     (tie.spec
     invariant-loop

@@ -15,7 +15,7 @@ use Rattle.mark_reader.proofs.Walk.{Vals, on_entry, Meets, triple_of, entered, c
 use Rattle.mark_reader.proofs.Walk.{walk_Meets, yes, ensured, lasts}
 use mir.Syntax.{erased}
 use denote.Struct.Laws as LL
-use Rattle.mark_reader.specs.Readers.{readerAt}
+use Rattle.mark_reader.specs.Readers.{reader_at}
 use Rattle.marks.specs.Pieces.{taken_of}
 use Rattle.mark_reader.specs.declared.Reader.{Reader}
 use Rattle.marks.specs.declared.State.{State}
@@ -30,8 +30,8 @@ use Rattle.mark_reader.specs.contracts.new as new
 use Rattle.mark_reader.proofs.new.Symbol as new-def
 use Rattle.mark_reader.proofs.new.Symbol.{name as #mark_reader·new}
 use Rattle.mark_reader.proofs.new.Met as new-thm
-use Rattle.mark_reader.proofs.Held.{B, pieceVal, stateVal, OwnPiece, OwnState}
-use Rattle.cuts.proofs.MakesReader.{New, to-new, said-new, apart}
+use Rattle.mark_reader.proofs.Held.{B, piece_val, state_val, OwnPiece, OwnState}
+use Rattle.cuts.proofs.MakesReader.{New, to_new, said_new, apart}
 use Rattle.mark_reader.specs.contracts.close as close
 use Rattle.mark_reader.proofs.close.Symbol as close-def
 use Rattle.mark_reader.proofs.close.Symbol.{name as #mark_reader·close}
@@ -54,7 +54,7 @@ module _ {M : Type 1} {𝓤 : Ura M} (𝓛 : Logic 𝓤) (mem : Memory → SProp
   open 𝓛 use {H}
 
   abbrev at : Vals closed.signature (κ, tt)
-  at = (stateVal st ∷ [], (pieceVal s ∷ [], tt))
+  at = (state_val st ∷ [], (piece_val s ∷ [], tt))
 
   abbrev answer : Taken
   answer = taken_of st (now s)
@@ -64,10 +64,10 @@ module _ {M : Type 1} {𝓤 : Ura M} (𝓛 : Logic 𝓤) (mem : Memory → SProp
 
   -- what the callees are passed
   abbrev to-close : Reader → Val → (Close 𝓛 mem run).Ghost
-  to-close r u = (((κ, tt), (q, tt), tt, (r, (st, tt)), (u ∷ [], (stateVal st ∷ [], tt))), tt)
+  to-close r u = (((κ, tt), (q, tt), tt, (r, (st, tt)), (u ∷ [], (state_val st ∷ [], tt))), tt)
 
-  asked-close : (r : Reader) (u : Val) → ent 𝓤 (on_entry 𝓛 close.signature (κ, tt) (q, tt) (r, (st, tt)) (u ∷ [], (stateVal st ∷ [], tt))) ((Close 𝓛 mem run).pre (to-close r u))
-  asked-close r u = qed 𝓛 ((‵ (flft κ q) ⊛ ‵ ftrue) ∷ ‵ (owns (B (κ, tt) ∷ K.the_row ∷ []) (r, (st, tt)) (u ∷ [], (stateVal st ∷ [], tt))) ∷ []) ∵ join ! $ frame ! $ done !
+  asked-close : (r : Reader) (u : Val) → ent 𝓤 (on_entry 𝓛 close.signature (κ, tt) (q, tt) (r, (st, tt)) (u ∷ [], (state_val st ∷ [], tt))) ((Close 𝓛 mem run).pre (to-close r u))
+  asked-close r u = qed 𝓛 ((‵ (flft κ q) ⊛ ‵ ftrue) ∷ ‵ (owns (B (κ, tt) ∷ K.the_row ∷ []) (r, (st, tt)) (u ∷ [], (state_val st ∷ [], tt))) ∷ []) ∵ join ! $ frame ! $ done !
 
   -- of a callee's `ensured`, the clause alone: it has no `&mut`, so what is said of last values is dropped
   said-close : (r : Reader) (t : Taken) → ent 𝓤 (ensured 𝓛 close.ended (close.clauses 𝓛 mem run) (κ, tt) (r, (st, tt)) tt t) (fact 𝓤 (t ≡ taken_of st (now r.piece)))
@@ -80,16 +80,16 @@ module _ {M : Type 1} {𝓤 : Ura M} (𝓛 : Logic 𝓤) (mem : Memory → SProp
       move ! (1 ∷ []) $ frame ! $ nothing ! $ move ! (3 ∷ 0 ∷ []) $ fjoin ! $ move ! (2 ∷ 0 ∷ []) $ fjoin ! $ frame ! $ done !
 
   module _ (C : Calls 𝓤 H) (Λ : Loops 𝓤 H) (fm : FmC 𝓤 H 𝓛.laws C) (known-new : Triple 𝓤 (C #mark_reader·new) (New 𝓛 mem run)) (known-close : Triple 𝓤 (C #mark_reader·close) (Close 𝓛 mem run)) where
-    walk : Holds (has_ty K'.mir (stateVal st)) × WT (stateVal st) → Is (ShrSlice (named 0) κ u8) s (pieceVal s ∷ [])
-        → ent 𝓤 (on_entry 𝓛 closed.signature (κ, tt) (q, tt) (st, (s, tt)) at) (WpFn 𝓤 H C Λ code.function (stateVal st ∷ pieceVal s ∷ []) Post)
+    walk : Holds (has_ty K'.mir (state_val st)) × WT (state_val st) → Is (ShrSlice (named 0) κ u8) s (piece_val s ∷ [])
+        → ent 𝓤 (on_entry 𝓛 closed.signature (κ, tt) (q, tt) (st, (s, tt)) at) (WpFn 𝓤 H C Λ code.function (state_val st ∷ piece_val s ∷ []) Post)
     walk wk p =
-        qed 𝓛 (raw (on_entry 𝓛 closed.signature (κ, tt) (q, tt) (st, (s, tt)) at) ∷ []) ∵ enter ! C Λ code.function (stateVal st ∷ pieceVal s ∷ []) _ $
-        alloc1 ! (λ l₀. alloc1 ! (λ l₁. alloc1 ! (λ l₂. alloc1 ! (λ l₃. alloc0 ! $ params1 ! $ pass1 ! (init ! 4 refl wk) $ pass1 ! (init ! 2 refl ((shr_slice_Lawful 𝓛 (named 0) κ u8).typed s (pieceVal s ∷ []) p).0) $ pass0 ! $
+        qed 𝓛 (raw (on_entry 𝓛 closed.signature (κ, tt) (q, tt) (st, (s, tt)) at) ∷ []) ∵ enter ! C Λ code.function (state_val st ∷ piece_val s ∷ []) _ $
+        alloc1 ! (λ l₀. alloc1 ! (λ l₁. alloc1 ! (λ l₂. alloc1 ! (λ l₃. alloc0 ! $ params1 ! $ pass1 ! (init ! 4 refl wk) $ pass1 ! (init ! 2 refl ((shr_slice_Lawful 𝓛 (named 0) κ u8).typed s (piece_val s ∷ []) p).0) $ pass0 ! $
         -- [what is had on entry; _3; …; _2; …; _1; …; room for _0; …]
-        move ! (8 ∷ []) $ use1 𝓛 (raw ((New 𝓛 mem run).pre (to-new 𝓛 mem run κ q s)) ⊛ (‵ (OwnPiece κ s) ⊛ (‵ (OwnState st) ⊛ ‵ (OwnState st)))) (apart 𝓛 mem run κ q s st ftrue) $ split ! $
-        calls_at ! fm (New 𝓛 mem run) known-new (to-new 𝓛 mem run κ q s) (and_then ! (load ! (from ! (stop !)) (look ! 4 refl)) (no_more !)) (λ u.
+        move ! (8 ∷ []) $ use1 𝓛 (raw ((New 𝓛 mem run).pre (to_new 𝓛 mem run κ q s)) ⊛ (‵ (OwnPiece κ s) ⊛ (‵ (OwnState st) ⊛ ‵ (OwnState st)))) (apart 𝓛 mem run κ q s st ftrue) $ split ! $
+        calls_at ! fm (New 𝓛 mem run) known-new (to_new 𝓛 mem run κ q s) (and_then ! (load ! (from ! (stop !)) (look ! 4 refl)) (no_more !)) (λ u.
         use1 𝓛 (later (some (λ (r : Reader). ((‵ (flft κ q) ⊛ ‵ ftrue) ⊛ ‵ ((B (κ, tt)).own_val r (u ∷ []))) ⊛ raw (ensured 𝓛 new.ended (new.clauses 𝓛 mem run) (κ, tt) (s, tt) tt r)))) (id⊢ 𝓤 _) $ await ! tt $ pick ! (λ r.
-        split ! $ move ! (1 ∷ []) $ use1 𝓛 (raw (fact 𝓤 (r ≡ readerAt s 0))) (said-new 𝓛 mem run κ q s r) $ heard ! (r ≡ readerAt s 0) (λ made. split ! $ move ! (1 ∷ []) $
+        split ! $ move ! (1 ∷ []) $ use1 𝓛 (raw (fact 𝓤 (r ≡ reader_at s 0))) (said_new 𝓛 mem run κ q s r) $ heard ! (r ≡ reader_at s 0) (λ made. split ! $ move ! (1 ∷ []) $
         -- [what the reader owns; the token; what is kept; room for _3; …; _2; …; _1; …; room for _0; …]
         peeks ! (B (κ, tt)) (Is (B (κ, tt))) (shows 𝓛 (B (κ, tt))) r (u ∷ []) (λ is.
         land ! (from ! (stop !)) (init ! 3 refl ((LL.lawful (T.the_type (record { mir = erased; lft = κ })) (T'.the_laws (record { mir = erased; lft = κ })) 𝓛).typed r _ is).0) $
@@ -113,9 +113,9 @@ closed-meets {𝓤 = 𝓤} 𝓛 mem run 𝓣 known-new known-close = walk_Meets 
     (walked 𝓛 closed.ended stayed (closed.clauses 𝓛 mem run) (WpFn 𝓤 𝓛.H 𝓣.C 𝓣.Λ code.function) (λ κs. (LL.vals K.the_type K'.the_laws, (shr_slice_vals, tt))) (λ κs. (LL.tells K.the_type K'.the_laws, (shr_slice_Tells (named 0) κs.0 u8, tt)))
     (λ κs qs bounds a g are. via 𝓤 _ (fst∗ 𝓤 _ (emp 𝓤)) (walk 𝓛 mem run κs.0 qs.0 a.0 a.1.0 𝓣.C 𝓣.Λ (fm_of 𝓤 𝓛.H 𝓛.laws 𝓣) known-new known-close ((LL.lawful K.the_type K'.the_laws 𝓛).typed a.0 _ are.0).0 are.1.0)))
 
-pub closed-spec : {M : Type 1} → stated.statement M
+pub closed_spec : {M : Type 1} → stated.statement M
 unfolding code.routine tables_of
-closed-spec 𝓤 𝓛 𝓜 𝓡 =
+closed_spec 𝓤 𝓛 𝓜 𝓡 =
     entered 𝓤 𝓛.H (triple_of 𝓛 closed.signature (closed.spec 𝓛 𝓜.mem 𝓡.run))
     (tables 𝓤 𝓛.H 𝓜 𝓡 code.env).C (tables 𝓤 𝓛.H 𝓜 𝓡 code.env).Λ #cuts·closed code.function (code.unfolded 𝓤 𝓛.H 𝓜 𝓡)
     (closed-meets 𝓛 𝓜.mem 𝓡.run (tables_of 𝓤 𝓛.H 𝓜 (tables 𝓤 𝓛.H 𝓜 𝓡 code.env))

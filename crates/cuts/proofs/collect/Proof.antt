@@ -10,8 +10,8 @@ invariant-loop state piece places₀ n₀ at₀ places n at = Unit {0}
 abbrev decreases-loop : tie.decreases-loop
 decreases-loop state piece places₀ n₀ at₀ places n at = 64 - n
 
-pub collect-spec : {M : Type 1} → statement M
-collect-spec =
+pub collect_spec : {M : Type 1} → statement M
+collect_spec =
     tie.close
     (tie.spec
     invariant-loop

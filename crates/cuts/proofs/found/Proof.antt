@@ -15,7 +15,7 @@ use Rattle.mark_reader.proofs.Walk.{Vals, on_entry, Meets, triple_of, entered, c
 use Rattle.mark_reader.proofs.Walk.{walk_Meets, yes, ensured, lasts}
 use mir.Syntax.{erased}
 use denote.Struct.Laws as LL
-use Rattle.mark_reader.specs.Readers.{readerAt}
+use Rattle.mark_reader.specs.Readers.{reader_at}
 use Rattle.marks.specs.Pieces.{step_of}
 use Rattle.mark_reader.specs.declared.Reader.{Reader}
 use Rattle.marks.specs.declared.State.{State}
@@ -30,8 +30,8 @@ use Rattle.mark_reader.specs.contracts.new as new
 use Rattle.mark_reader.proofs.new.Symbol as new-def
 use Rattle.mark_reader.proofs.new.Symbol.{name as #mark_reader·new}
 use Rattle.mark_reader.proofs.new.Met as new-thm
-use Rattle.mark_reader.proofs.Held.{B, pieceVal, stateVal, OwnPiece, OwnState}
-use Rattle.cuts.proofs.MakesReader.{New, to-new, said-new, apart}
+use Rattle.mark_reader.proofs.Held.{B, piece_val, state_val, OwnPiece, OwnState}
+use Rattle.cuts.proofs.MakesReader.{New, to_new, said_new, apart}
 use Rattle.mark_reader.specs.contracts.moved as moved
 use Rattle.mark_reader.proofs.moved.Symbol as moved-def
 use Rattle.mark_reader.proofs.moved.Symbol.{name as #mark_reader·moved}
@@ -61,7 +61,7 @@ module _ {M : Type 1} {𝓤 : Ura M} (𝓛 : Logic 𝓤) (mem : Memory → SProp
   open 𝓛 use {H}
 
   abbrev at : Vals found.signature (κ, tt)
-  at = (stateVal st ∷ [], (pieceVal s ∷ [], (vint w64 n ∷ [], tt)))
+  at = (state_val st ∷ [], (piece_val s ∷ [], (vint w64 n ∷ [], tt)))
 
   abbrev answer : Step
   answer = step_of st (now s) n
@@ -74,17 +74,17 @@ module _ {M : Type 1} {𝓤 : Ura M} (𝓛 : Logic 𝓤) (mem : Memory → SProp
   to-moved r u = (((κ, tt), (q, tt), tt, (r, (n, tt)), (u ∷ [], (vint w64 n ∷ [], tt))), tt)
 
   abbrev to-next : Reader → Val → (Next 𝓛 mem run).Ghost
-  to-next r u = (((κ, tt), (q, tt), tt, (r, (st, tt)), (u ∷ [], (stateVal st ∷ [], tt))), tt)
+  to-next r u = (((κ, tt), (q, tt), tt, (r, (st, tt)), (u ∷ [], (state_val st ∷ [], tt))), tt)
 
   asked-moved : (r : Reader) (u : Val) → ent 𝓤 (on_entry 𝓛 moved.signature (κ, tt) (q, tt) (r, (n, tt)) (u ∷ [], (vint w64 n ∷ [], tt))) ((Moved 𝓛 mem run).pre (to-moved r u))
   asked-moved r u = qed 𝓛 ((‵ (flft κ q) ⊛ ‵ ftrue) ∷ ‵ (owns (B (κ, tt) ∷ usize ∷ []) (r, (n, tt)) (u ∷ [], (vint w64 n ∷ [], tt))) ∷ []) ∵ join ! $ frame ! $ done !
 
-  asked-next : (r : Reader) (u : Val) → ent 𝓤 (on_entry 𝓛 next.signature (κ, tt) (q, tt) (r, (st, tt)) (u ∷ [], (stateVal st ∷ [], tt))) ((Next 𝓛 mem run).pre (to-next r u))
-  asked-next r u = qed 𝓛 ((‵ (flft κ q) ⊛ ‵ ftrue) ∷ ‵ (owns (B (κ, tt) ∷ K.the_row ∷ []) (r, (st, tt)) (u ∷ [], (stateVal st ∷ [], tt))) ∷ []) ∵ join ! $ frame ! $ done !
+  asked-next : (r : Reader) (u : Val) → ent 𝓤 (on_entry 𝓛 next.signature (κ, tt) (q, tt) (r, (st, tt)) (u ∷ [], (state_val st ∷ [], tt))) ((Next 𝓛 mem run).pre (to-next r u))
+  asked-next r u = qed 𝓛 ((‵ (flft κ q) ⊛ ‵ ftrue) ∷ ‵ (owns (B (κ, tt) ∷ K.the_row ∷ []) (r, (st, tt)) (u ∷ [], (state_val st ∷ [], tt))) ∷ []) ∵ join ! $ frame ! $ done !
 
   -- of a callee's `ensured`, the clause alone: it has no `&mut`, so what is said of last values is dropped
-  said-moved : (r m : Reader) → ent 𝓤 (ensured 𝓛 moved.ended (moved.clauses 𝓛 mem run) (κ, tt) (r, (n, tt)) tt m) (fact 𝓤 (m ≡ readerAt r.piece n))
-  said-moved r m = ex_e 𝓤 _ (λ ws. snd∗ 𝓤 (sem 𝓛 (lasts moved.ended (κ, tt) (r, (n, tt)) ws)) (fact 𝓤 (m ≡ readerAt r.piece n)))
+  said-moved : (r m : Reader) → ent 𝓤 (ensured 𝓛 moved.ended (moved.clauses 𝓛 mem run) (κ, tt) (r, (n, tt)) tt m) (fact 𝓤 (m ≡ reader_at r.piece n))
+  said-moved r m = ex_e 𝓤 _ (λ ws. snd∗ 𝓤 (sem 𝓛 (lasts moved.ended (κ, tt) (r, (n, tt)) ws)) (fact 𝓤 (m ≡ reader_at r.piece n)))
 
   said-next : (r : Reader) (t : Step) → ent 𝓤 (ensured 𝓛 next.ended (next.clauses 𝓛 mem run) (κ, tt) (r, (st, tt)) tt t) (fact 𝓤 (t ≡ step_of st (now r.piece) r.at))
   said-next r t = ex_e 𝓤 _ (λ ws. snd∗ 𝓤 (sem 𝓛 (lasts next.ended (κ, tt) (r, (st, tt)) ws)) (fact 𝓤 (t ≡ step_of st (now r.piece) r.at)))
@@ -97,23 +97,23 @@ module _ {M : Type 1} {𝓤 : Ura M} (𝓛 : Logic 𝓤) (mem : Memory → SProp
 
   module _ (C : Calls 𝓤 H) (Λ : Loops 𝓤 H) (fm : FmC 𝓤 H 𝓛.laws C) (known-new : Triple 𝓤 (C #mark_reader·new) (New 𝓛 mem run)) (known-moved : Triple 𝓤 (C #mark_reader·moved) (Moved 𝓛 mem run))
       (known_next : Triple 𝓤 (C #mark_reader·next) (Next 𝓛 mem run)) where
-    walk : Holds (has_ty K'.mir (stateVal st)) × WT (stateVal st) → Is (ShrSlice (named 0) κ u8) s (pieceVal s ∷ [])
-        → ent 𝓤 (on_entry 𝓛 found.signature (κ, tt) (q, tt) (st, (s, (n, tt))) at) (WpFn 𝓤 H C Λ code.function (stateVal st ∷ pieceVal s ∷ vint w64 n ∷ []) Post)
+    walk : Holds (has_ty K'.mir (state_val st)) × WT (state_val st) → Is (ShrSlice (named 0) κ u8) s (piece_val s ∷ [])
+        → ent 𝓤 (on_entry 𝓛 found.signature (κ, tt) (q, tt) (st, (s, (n, tt))) at) (WpFn 𝓤 H C Λ code.function (state_val st ∷ piece_val s ∷ vint w64 n ∷ []) Post)
     walk wk p =
-        qed 𝓛 (raw (on_entry 𝓛 found.signature (κ, tt) (q, tt) (st, (s, (n, tt))) at) ∷ []) ∵ enter ! C Λ code.function (stateVal st ∷ pieceVal s ∷ vint w64 n ∷ []) _ $
+        qed 𝓛 (raw (on_entry 𝓛 found.signature (κ, tt) (q, tt) (st, (s, (n, tt))) at) ∷ []) ∵ enter ! C Λ code.function (state_val st ∷ piece_val s ∷ vint w64 n ∷ []) _ $
         alloc1 ! (λ l₀. alloc1 ! (λ l₁. alloc1 ! (λ l₂. alloc1 ! (λ l₃. alloc1 ! (λ l₄. alloc1 ! (λ l₅. alloc0 ! $ params1 ! $
-        pass1 ! (init ! 8 refl wk) $ pass1 ! (init ! 6 refl ((shr_slice_Lawful 𝓛 (named 0) κ u8).typed s (pieceVal s ∷ []) p).0) $ pass1 ! (init ! 4 refl (tt, record { fits = ok })) $ pass0 ! $
-        move ! (12 ∷ []) $ use1 𝓛 (raw ((New 𝓛 mem run).pre (to-new 𝓛 mem run κ q s)) ⊛ (‵ (OwnPiece κ s) ⊛ (‵ (OwnState st) ⊛ ‵ (OwnState st)))) (apart 𝓛 mem run κ q s st (owns (usize ∷ []) (n, tt) (vint w64 n ∷ [], tt))) $ split ! $
-        calls_at ! fm (New 𝓛 mem run) known-new (to-new 𝓛 mem run κ q s) (and_then ! (load ! (from ! (stop !)) (look ! 8 refl)) (no_more !)) (λ u.
+        pass1 ! (init ! 8 refl wk) $ pass1 ! (init ! 6 refl ((shr_slice_Lawful 𝓛 (named 0) κ u8).typed s (piece_val s ∷ []) p).0) $ pass1 ! (init ! 4 refl (tt, record { fits = ok })) $ pass0 ! $
+        move ! (12 ∷ []) $ use1 𝓛 (raw ((New 𝓛 mem run).pre (to_new 𝓛 mem run κ q s)) ⊛ (‵ (OwnPiece κ s) ⊛ (‵ (OwnState st) ⊛ ‵ (OwnState st)))) (apart 𝓛 mem run κ q s st (owns (usize ∷ []) (n, tt) (vint w64 n ∷ [], tt))) $ split ! $
+        calls_at ! fm (New 𝓛 mem run) known-new (to_new 𝓛 mem run κ q s) (and_then ! (load ! (from ! (stop !)) (look ! 8 refl)) (no_more !)) (λ u.
         use1 𝓛 (later (some (λ (r : Reader). ((‵ (flft κ q) ⊛ ‵ ftrue) ⊛ ‵ ((B (κ, tt)).own_val r (u ∷ []))) ⊛ raw (ensured 𝓛 new.ended (new.clauses 𝓛 mem run) (κ, tt) (s, tt) tt r)))) (id⊢ 𝓤 _) $ await ! tt $ pick ! (λ r.
-        split ! $ move ! (1 ∷ []) $ use1 𝓛 (raw (fact 𝓤 (r ≡ readerAt s 0))) (said-new 𝓛 mem run κ q s r) $ heard ! (r ≡ readerAt s 0) (λ made. split ! $ move ! (1 ∷ []) $
+        split ! $ move ! (1 ∷ []) $ use1 𝓛 (raw (fact 𝓤 (r ≡ reader_at s 0))) (said_new 𝓛 mem run κ q s r) $ heard ! (r ≡ reader_at s 0) (λ made. split ! $ move ! (1 ∷ []) $
         -- [what the reader owns; the token; what is kept; room for _5; …; room for _4; …; _3; …; _2; …; _1; …; room for _0; …]
         peeks ! (B (κ, tt)) (Is (B (κ, tt))) (shows 𝓛 (B (κ, tt))) r (u ∷ []) (λ is.
         land ! (from ! (stop !)) (init ! 3 refl ((LL.lawful (T.the_type (record { mir = erased; lft = κ })) (T'.the_laws (record { mir = erased; lft = κ })) 𝓛).typed r _ is).0) $
         nothing ! $ owned ! usize (Is usize) (uint_Makes 𝓛 w64) n _ (refl, ok) $ fjoin ! $ move ! (1 ∷ 0 ∷ []) $ fjoin ! $ move ! (1 ∷ 0 ∷ []) $ use2 𝓛 (raw ((Moved 𝓛 mem run).pre (to-moved r u))) (asked-moved r u) $
         calls_at ! fm (Moved 𝓛 mem run) known-moved (to-moved r u) (and_then ! (load ! (from ! (stop !)) (look ! 2 refl)) (and_then ! (load ! (from ! (stop !)) (look ! 6 refl)) (no_more !))) (λ x.
         use1 𝓛 (later (some (λ (m : Reader). ((‵ (flft κ q) ⊛ ‵ ftrue) ⊛ ‵ ((B (κ, tt)).own_val m (x ∷ []))) ⊛ raw (ensured 𝓛 moved.ended (moved.clauses 𝓛 mem run) (κ, tt) (r, (n, tt)) tt m)))) (id⊢ 𝓤 _) $ await ! tt $ pick ! (λ m.
-        split ! $ move ! (1 ∷ []) $ use1 𝓛 (raw (fact 𝓤 (m ≡ readerAt r.piece n))) (said-moved r m) $ heard ! (m ≡ readerAt r.piece n) (λ there. split ! $ move ! (1 ∷ []) $
+        split ! $ move ! (1 ∷ []) $ use1 𝓛 (raw (fact 𝓤 (m ≡ reader_at r.piece n))) (said-moved r m) $ heard ! (m ≡ reader_at r.piece n) (λ there. split ! $ move ! (1 ∷ []) $
         peeks ! (B (κ, tt)) (Is (B (κ, tt))) (shows 𝓛 (B (κ, tt))) m (x ∷ []) (λ is-moved.
         land ! (from ! (stop !)) (init ! 5 refl ((LL.lawful (T.the_type (record { mir = erased; lft = κ })) (T'.the_laws (record { mir = erased; lft = κ })) 𝓛).typed m _ is-moved).0) $
         move ! (2 ∷ []) $ split ! $ move ! (1 ∷ []) $ split ! $
@@ -136,9 +136,9 @@ found-meets {𝓤 = 𝓤} 𝓛 mem run 𝓣 known-new known-moved known_next = w
     (walked 𝓛 found.ended stayed (found.clauses 𝓛 mem run) (WpFn 𝓤 𝓛.H 𝓣.C 𝓣.Λ code.function) (λ κs. (LL.vals K.the_type K'.the_laws, (shr_slice_vals, (uint_vals w64, tt)))) (λ κs. (LL.tells K.the_type K'.the_laws, (shr_slice_Tells (named 0) κs.0 u8, (uint_Tells w64, tt))))
     (λ κs qs bounds a g are. via 𝓤 _ (fst∗ 𝓤 _ (emp 𝓤)) (walk 𝓛 mem run κs.0 qs.0 a.0 a.1.0 a.1.1.0 are.1.1.0.1 𝓣.C 𝓣.Λ (fm_of 𝓤 𝓛.H 𝓛.laws 𝓣) known-new known-moved known_next ((LL.lawful K.the_type K'.the_laws 𝓛).typed a.0 _ are.0).0 are.1.0)))
 
-pub found-spec : {M : Type 1} → stated.statement M
+pub found_spec : {M : Type 1} → stated.statement M
 unfolding code.routine tables_of
-found-spec 𝓤 𝓛 𝓜 𝓡 =
+found_spec 𝓤 𝓛 𝓜 𝓡 =
     entered 𝓤 𝓛.H (triple_of 𝓛 found.signature (found.spec 𝓛 𝓜.mem 𝓡.run))
     (tables 𝓤 𝓛.H 𝓜 𝓡 code.env).C (tables 𝓤 𝓛.H 𝓜 𝓡 code.env).Λ #cuts·found code.function (code.unfolded 𝓤 𝓛.H 𝓜 𝓡)
     (found-meets 𝓛 𝓜.mem 𝓡.run (tables_of 𝓤 𝓛.H 𝓜 (tables 𝓤 𝓛.H 𝓜 𝓡 code.env))

@@ -5,8 +5,8 @@ use Rattle.frame.proofs.Recorded.{reads}
 use Rattle.frame.proofs.read_record.Statement.{statement}
 use Rattle.frame.proofs.read_record.Tie as tie
 
-pub read-record-spec : {M : Type 1} → statement M
-read-record-spec =
+pub read_record_spec : {M : Type 1} → statement M
+read_record_spec =
     tie.close
     (tie.spec
     (λ c. search rules)

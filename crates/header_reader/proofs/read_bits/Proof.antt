@@ -1,7 +1,7 @@
 -- `read_bits` meets its contract: rows 2, 23 and 3, or what the later rows say of the repaired words.
 -- Assumes nothing.
 use borrow.Author.Rules.{rules}
-use Rattle.header_reader.proofs.Rows.{gives-2, gives-23, gives-3, no-fault, all-bits, repaired, leaves}
+use Rattle.header_reader.proofs.Rows.{gives_2, gives_23, gives_3, no_fault, all_bits_lem, repaired, leaves}
 use Rattle.header_reader.proofs.read_bits.Statement.{statement}
 use Rattle.header_reader.proofs.read_bits.Tie as tie
 
@@ -12,7 +12,7 @@ refused-requires : tie.Need-refused-requires
 refused-requires c κs = search rules
 
 returns : tie.Need-returns
-returns c = search (rules, gives-2)
+returns c = search (rules, gives_2)
 
 fault-at-requires : tie.Need-fault-at-requires
 fault-at-requires c κs = search rules
@@ -21,10 +21,10 @@ refused-requires-2 : tie.Need-refused-requires-2
 refused-requires-2 c κs = search rules
 
 returns-2 : tie.Need-returns-2
-returns-2 c = search (rules, gives-23, all-bits)
+returns-2 c = search (rules, gives_23, all_bits_lem)
 
 words-requires : tie.Need-words-requires
-words-requires c κs = search (rules, all-bits)
+words-requires c κs = search (rules, all_bits_lem)
 
 repair-words-requires : tie.Need-repair-words-requires
 repair-words-requires c κs = search rules
@@ -33,7 +33,7 @@ refused-requires-3 : tie.Need-refused-requires-3
 refused-requires-3 c κs = search rules
 
 returns-3 : tie.Need-returns-3
-returns-3 c = search (rules, gives-3, all-bits, no-fault)
+returns-3 c = search (rules, gives_3, all_bits_lem, no_fault)
 
 judge-words-requires : tie.Need-judge-words-requires
 judge-words-requires c κs = search (rules, repaired)
@@ -42,10 +42,10 @@ with-patterns-requires : tie.Need-with-patterns-requires
 with-patterns-requires c κs = search rules
 
 returns-4 : tie.Need-returns-4
-returns-4 c = search (rules, leaves, all-bits, no-fault)
+returns-4 c = search (rules, leaves, all_bits_lem, no_fault)
 
-pub read-bits-spec : {M : Type 1} → statement M
-read-bits-spec =
+pub read_bits_spec : {M : Type 1} → statement M
+read_bits_spec =
     tie.close
     (tie.spec
     first-no-bit-requires

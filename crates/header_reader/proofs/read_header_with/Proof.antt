@@ -1,7 +1,7 @@
 -- `read_header_with` meets its contract: rows 20 and 1, or what the later rows say of 210 bytes.
 -- Assumes nothing.
 use borrow.Author.Rules.{rules}
-use Rattle.header_reader.proofs.Rows.{gives-20, gives-1}
+use Rattle.header_reader.proofs.Rows.{gives_20, gives_1}
 use Rattle.header_reader.proofs.read_header_with.Statement.{statement}
 use Rattle.header_reader.proofs.read_header_with.Tie as tie
 
@@ -12,13 +12,13 @@ refused-requires : tie.Need-refused-requires
 refused-requires c κs = search rules
 
 returns : tie.Need-returns
-returns c = search (rules, gives-20)
+returns c = search (rules, gives_20)
 
 refused-requires-2 : tie.Need-refused-requires-2
 refused-requires-2 c κs = search rules
 
 returns-2 : tie.Need-returns-2
-returns-2 c = search (rules, gives-1)
+returns-2 c = search (rules, gives_1)
 
 read-bits-requires : tie.Need-read-bits-requires
 read-bits-requires c κs = search rules
@@ -26,6 +26,6 @@ read-bits-requires c κs = search rules
 returns-3 : tie.Need-returns-3
 returns-3 c = search rules
 
-pub read-header-with-spec : {M : Type 1} → statement M
-read-header-with-spec =
+pub read_header_with_spec : {M : Type 1} → statement M
+read_header_with_spec =
     tie.close (tie.spec cast-refused refused-requires returns refused-requires-2 returns-2 read-bits-requires returns-3)

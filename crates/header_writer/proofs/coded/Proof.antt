@@ -2,29 +2,29 @@
 -- Assumes nothing.
 use borrow.Author.Rules.{rules}
 use Prim.Native.Nat.{◌+◌, ◌*◌, ◌-◌, ◌^◌}
-use Rattle.base.proofs.Fill.{Filled, fill-starts, fill-goes-on, fill-whole}
-use Rattle.word.specs.Words.{encodeOf}
-use Rattle.air.specs.Air.{wordCount}
-use Rattle.header.specs.Fields.{dataAt, codedOf}
-use Rattle.header.proofs.Coding.{coded-asked, coded-word}
+use Rattle.base.proofs.Fill.{Filled, fill_starts, fill_goes_on, fill_whole}
+use Rattle.word.specs.Words.{encode_of}
+use Rattle.air.specs.Air.{word_count}
+use Rattle.header.specs.Fields.{data_at, coded_of}
+use Rattle.header.proofs.Coding.{coded_asked, coded_word}
 use Rattle.header_writer.proofs.coded.Statement.{statement}
 use Rattle.header_writer.proofs.coded.Tie as tie
-use Rattle.crc.specs.Halves.{headerBits}
+use Rattle.crc.specs.Halves.{header_bits}
 
 abbrev invariant-loop : tie.invariant-loop
-invariant-loop hi lo words₀ j₀ words j = Filled (λ k. encodeOf (dataAt (headerBits hi lo) k)) wordCount words₀ j words
+invariant-loop hi lo words₀ j₀ words j = Filled (λ k. encode_of (data_at (header_bits hi lo) k)) word_count words₀ j words
 
 abbrev decreases-loop : tie.decreases-loop
 decreases-loop hi lo words₀ j₀ words j = 14 - j
 
 loop-holds : tie.Need-loop-init invariant-loop decreases-loop
-loop-holds c = search (rules, fill-starts)
+loop-holds c = search (rules, fill_starts)
 
 data-at-requires : tie.Need-data-at-requires invariant-loop decreases-loop
 data-at-requires c κs = search rules
 
 encode-requires : tie.Need-encode-requires invariant-loop decreases-loop
-encode-requires c κs = search (rules, coded-asked)
+encode-requires c κs = search (rules, coded_asked)
 
 mul_words : tie.Need-overflow-mul-words invariant-loop decreases-loop
 mul_words c = search rules
@@ -39,14 +39,14 @@ loop-less : tie.Need-loop-smaller invariant-loop decreases-loop
 loop-less c = search rules
 
 loop-again : tie.Need-loop-preserved invariant-loop decreases-loop
-loop-again c = search (rules, fill-goes-on, coded-word)
+loop-again c = search (rules, fill_goes_on, coded_word)
 
 returns : tie.Need-returns invariant-loop decreases-loop
-unfolding codedOf
-returns c = search (rules, fill-whole)
+unfolding coded_of
+returns c = search (rules, fill_whole)
 
-pub coded-spec : {M : Type 1} → statement M
-coded-spec =
+pub coded_spec : {M : Type 1} → statement M
+coded_spec =
     tie.close
     (tie.spec
     invariant-loop

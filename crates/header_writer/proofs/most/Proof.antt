@@ -2,7 +2,7 @@
 -- Assumes nothing.
 use borrow.Author.Rules.{rules}
 use Rattle.base.specs.Lists.{tabulate}
-use Rattle.header.proofs.Ranges.{most-first, most_other}
+use Rattle.header.proofs.Ranges.{most_first, most_other}
 use Rattle.header_writer.proofs.most.Statement.{statement}
 use Rattle.header_writer.proofs.most.Tie as tie
 
@@ -10,11 +10,11 @@ returns-2 : tie.Need-returns-2
 unfolding tabulate
 returns-2 c = search (rules, most_other)
 
-pub most-spec : {M : Type 1} → statement M
-most-spec =
+pub most_spec : {M : Type 1} → statement M
+most_spec =
     tie.close
     (tie.spec
     (λ c κs. search rules)
-    (λ c. search (rules, most-first))
+    (λ c. search (rules, most_first))
     (λ c. search rules)
     returns-2)

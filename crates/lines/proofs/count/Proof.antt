@@ -1,7 +1,7 @@
 -- `lines::count` meets its contract, by the cases of the answer.
 -- Assumes nothing.
 use borrow.Author.Rules.{rules}
-use Rattle.lines.proofs.Counting.{counts-accepted, counts-refused}
+use Rattle.lines.proofs.Counting.{counts_accepted, counts_refused}
 use Rattle.lines.proofs.count.Statement.{statement}
 use Rattle.lines.proofs.count.Tie as tie
 
@@ -13,5 +13,5 @@ count_spec =
     (λ c. search rules)
     (λ c. search rules)
     (λ c. search rules)
-    (λ c. search (rules, counts-accepted))
-    (λ c. search (rules, counts-refused)))
+    (λ c. search (rules, counts_accepted))
+    (λ c. search (rules, counts_refused)))

@@ -1,19 +1,19 @@
 -- `lines::put_closing` meets its contract.
 -- Assumes nothing.
 use borrow.Author.Rules.{rules}
-use Rattle.lines.proofs.Putting.{closing-cut, closing-whole}
+use Rattle.lines.proofs.Putting.{closing_cut, closing_whole}
 use Rattle.lines.proofs.put_closing.Statement.{statement}
 use Rattle.lines.proofs.put_closing.Tie as tie
 
-pub put-closing-spec : {M : Type 1} → statement M
-put-closing-spec =
+pub put_closing_spec : {M : Type 1} → statement M
+put_closing_spec =
     tie.close
     (tie.spec
     (λ c. search rules)
     (λ c κs. search rules)
     (λ c κs. search rules)
     (λ c. search rules)
-    (λ c. search (rules, closing-cut))
+    (λ c. search (rules, closing_cut))
     (λ c κs. search rules)
     (λ c. search rules)
-    (λ c. search (rules, closing-whole)))
+    (λ c. search (rules, closing_whole)))

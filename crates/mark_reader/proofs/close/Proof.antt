@@ -15,7 +15,7 @@ use Rattle.marks.specs.contracts.State as K
 use Rattle.marks.proofs.State.TheLaws as K'
 use Rattle.marks.specs.contracts.Taken as S
 use Rattle.marks.proofs.Taken.TheLaws as S'
-use Rattle.mark_reader.proofs.Held.{pieceVal, stateVal, OwnReader, OwnState, stayed, passed, apart, meets-over}
+use Rattle.mark_reader.proofs.Held.{piece_val, state_val, OwnReader, OwnState, stayed, passed, apart, meets_over}
 use Rattle.marks.specs.contracts.take as taking
 use Rattle.marks.proofs.take.Symbol as taking-def
 use Rattle.marks.proofs.take.Symbol.{name as #marks·take}
@@ -42,7 +42,7 @@ module _ {M : Type 1} {𝓤 : Ura M} (𝓛 : Logic 𝓤) (mem : Memory → SProp
 
   -- what the callee is passed
   abbrev handed : Vals taking.signature (κ, tt)
-  handed = (stateVal st ∷ [], (pieceVal d.piece ∷ [], tt))
+  handed = (state_val st ∷ [], (piece_val d.piece ∷ [], tt))
 
   abbrev to : (Take 𝓛 mem run).Ghost
   to = (((κ, tt), (q, tt), tt, (st, (d.piece, tt)), handed), tt)
@@ -61,10 +61,10 @@ module _ {M : Type 1} {𝓤 : Ura M} (𝓛 : Logic 𝓤) (mem : Memory → SProp
       move ! (1 ∷ []) $ frame ! $ move ! (1 ∷ []) $ split ! $ nothing ! $ move ! (2 ∷ 0 ∷ []) $ fjoin ! $ move ! (1 ∷ 0 ∷ []) $ fjoin ! $ frame ! $ done !
 
   module _ (C : Calls 𝓤 H) (Λ : Loops 𝓤 H) (fm : FmC 𝓤 H 𝓛.laws C) (known : Triple 𝓤 (C #marks·take) (Take 𝓛 mem run)) where
-    walk : Holds (has_ty (T'.mir (named 0)) (T'.lowered d)) × WT (T'.lowered d) → Holds (has_ty K'.mir (stateVal st)) × WT (stateVal st)
-        → ent 𝓤 (on_entry 𝓛 close.signature (κ, tt) (q, tt) (d, (st, tt)) (passed d st)) (WpFn 𝓤 H C Λ code.function (T'.lowered d ∷ stateVal st ∷ []) Post)
+    walk : Holds (has_ty (T'.mir (named 0)) (T'.lowered d)) × WT (T'.lowered d) → Holds (has_ty K'.mir (state_val st)) × WT (state_val st)
+        → ent 𝓤 (on_entry 𝓛 close.signature (κ, tt) (q, tt) (d, (st, tt)) (passed d st)) (WpFn 𝓤 H C Λ code.function (T'.lowered d ∷ state_val st ∷ []) Post)
     walk wt wk =
-        qed 𝓛 (raw (on_entry 𝓛 close.signature (κ, tt) (q, tt) (d, (st, tt)) (passed d st)) ∷ []) ∵ enter ! C Λ code.function (T'.lowered d ∷ stateVal st ∷ []) _ $
+        qed 𝓛 (raw (on_entry 𝓛 close.signature (κ, tt) (q, tt) (d, (st, tt)) (passed d st)) ∷ []) ∵ enter ! C Λ code.function (T'.lowered d ∷ state_val st ∷ []) _ $
         alloc1 ! (λ l₀. alloc1 ! (λ l₁. alloc1 ! (λ l₂. alloc1 ! (λ l₃. alloc0 ! $ params1 ! $ pass1 ! (init ! 4 refl wt) $ pass1 ! (init ! 2 refl wk) $ pass0 ! $
         assigns ! (of_opd ! (load ! (from ! (fld ! refl (stop !))) (look_in ! 4 (sub ! 0 refl (whole !))))) (from ! (stop !)) (init ! 0 refl (tt, wt.1.0)) $
         move ! (8 ∷ []) $ use1 𝓛 (raw ((Take 𝓛 mem run).pre to) ⊛ (‵ (OwnReader κ d) ⊛ ‵ (OwnState st))) (apart 𝓛 κ q d st ftrue (id⊢ 𝓤 (sem 𝓛 ftrue)) ((Take 𝓛 mem run).pre to) asked) $ split ! $
@@ -84,5 +84,5 @@ close_spec 𝓤 𝓛 𝓜 𝓡 =
     let known = cited 𝓤 𝓛.H (Take 𝓛 𝓜.mem 𝓡.run) 𝓜 𝓡 code.env #marks·take taking-def.routine code.calls-marks::take (taking-thm.met 𝓤 𝓛 𝓜 𝓡) in
     entered 𝓤 𝓛.H (triple_of 𝓛 close.signature (close.spec 𝓛 𝓜.mem 𝓡.run))
     (tables 𝓤 𝓛.H 𝓜 𝓡 code.env).C (tables 𝓤 𝓛.H 𝓜 𝓡 code.env).Λ #mark_reader·close code.function (code.unfolded 𝓤 𝓛.H 𝓜 𝓡)
-    (meets-over 𝓛 (close.ended).signature.result (close.clauses 𝓛 𝓜.mem 𝓡.run) (WpFn 𝓤 𝓛.H 𝓣.C 𝓣.Λ code.function) (WpFn-mono 𝓤 𝓛.H 𝓛.laws 𝓣 code.function)
+    (meets_over 𝓛 (close.ended).signature.result (close.clauses 𝓛 𝓜.mem 𝓡.run) (WpFn 𝓤 𝓛.H 𝓣.C 𝓣.Λ code.function) (WpFn-mono 𝓤 𝓛.H 𝓛.laws 𝓣 code.function)
     (λ κ q d st g. walk 𝓛 𝓜.mem 𝓡.run κ q d st 𝓣.C 𝓣.Λ (fm_of 𝓤 𝓛.H 𝓛.laws 𝓣) known))

@@ -15,7 +15,7 @@ use Rattle.marks.specs.contracts.State as K
 use Rattle.marks.proofs.State.TheLaws as K'
 use Rattle.marks.specs.contracts.Step as S
 use Rattle.marks.proofs.Step.TheLaws as S'
-use Rattle.mark_reader.proofs.Held.{pieceVal, stateVal, OwnReader, OwnState, stayed, passed, apart, meets-over}
+use Rattle.mark_reader.proofs.Held.{piece_val, state_val, OwnReader, OwnState, stayed, passed, apart, meets_over}
 use Rattle.marks.specs.contracts.find as find
 use Rattle.marks.proofs.find.Symbol as find-def
 use Rattle.marks.proofs.find.Symbol.{name as #marks·find}
@@ -42,7 +42,7 @@ module _ {M : Type 1} {𝓤 : Ura M} (𝓛 : Logic 𝓤) (mem : Memory → SProp
 
   -- what the callee is passed
   abbrev handed : Vals find.signature (κ, tt)
-  handed = (stateVal st ∷ [], (pieceVal d.piece ∷ [], (vint w64 d.at ∷ [], tt)))
+  handed = (state_val st ∷ [], (piece_val d.piece ∷ [], (vint w64 d.at ∷ [], tt)))
 
   abbrev to : (Find 𝓛 mem run).Ghost
   to = (((κ, tt), (q, tt), tt, (st, (d.piece, (d.at, tt))), handed), tt)
@@ -65,10 +65,10 @@ module _ {M : Type 1} {𝓤 : Ura M} (𝓛 : Logic 𝓤) (mem : Memory → SProp
       move ! (1 ∷ []) $ frame ! $ move ! (1 ∷ []) $ split ! $ nothing ! $ move ! (2 ∷ 0 ∷ []) $ fjoin ! $ move ! (1 ∷ 0 ∷ []) $ fjoin ! $ frame ! $ done !
 
   module _ (C : Calls 𝓤 H) (Λ : Loops 𝓤 H) (fm : FmC 𝓤 H 𝓛.laws C) (known : Triple 𝓤 (C #marks·find) (Find 𝓛 mem run)) where
-    walk : Holds (has_ty (T'.mir (named 0)) (T'.lowered d)) × WT (T'.lowered d) → Holds (has_ty K'.mir (stateVal st)) × WT (stateVal st)
-        → ent 𝓤 (on_entry 𝓛 next.signature (κ, tt) (q, tt) (d, (st, tt)) (passed d st)) (WpFn 𝓤 H C Λ code.function (T'.lowered d ∷ stateVal st ∷ []) Post)
+    walk : Holds (has_ty (T'.mir (named 0)) (T'.lowered d)) × WT (T'.lowered d) → Holds (has_ty K'.mir (state_val st)) × WT (state_val st)
+        → ent 𝓤 (on_entry 𝓛 next.signature (κ, tt) (q, tt) (d, (st, tt)) (passed d st)) (WpFn 𝓤 H C Λ code.function (T'.lowered d ∷ state_val st ∷ []) Post)
     walk wt wk =
-        qed 𝓛 (raw (on_entry 𝓛 next.signature (κ, tt) (q, tt) (d, (st, tt)) (passed d st)) ∷ []) ∵ enter ! C Λ code.function (T'.lowered d ∷ stateVal st ∷ []) _ $
+        qed 𝓛 (raw (on_entry 𝓛 next.signature (κ, tt) (q, tt) (d, (st, tt)) (passed d st)) ∷ []) ∵ enter ! C Λ code.function (T'.lowered d ∷ state_val st ∷ []) _ $
         alloc1 ! (λ l₀. alloc1 ! (λ l₁. alloc1 ! (λ l₂. alloc1 ! (λ l₃. alloc1 ! (λ l₄. alloc0 ! $ params1 ! $ pass1 ! (init ! 6 refl wt) $ pass1 ! (init ! 4 refl wk) $ pass0 ! $
         assigns ! (of_opd ! (load ! (from ! (fld ! refl (stop !))) (look_in ! 6 (sub ! 0 refl (whole !))))) (from ! (stop !)) (init ! 2 refl (tt, wt.1.0)) $
         assigns ! (of_opd ! (load ! (from ! (fld ! refl (stop !))) (look_in ! 6 (sub ! 1 refl (whole !))))) (from ! (stop !)) (init ! 0 refl (tt, wt.1.1.0)) $
@@ -82,12 +82,12 @@ module _ {M : Type 1} {𝓤 : Ura M} (𝓛 : Logic 𝓤) (mem : Memory → SProp
         returns ! (look ! 11 refl) $ forget ! 3 refl $ forget ! 5 refl $ forget ! 7 refl $ forget ! 9 refl $ forget ! 11 refl $
         move ! (11 ∷ 12 ∷ []) $ free1 ! $ move ! (9 ∷ 10 ∷ []) $ free1 ! $ move ! (7 ∷ 8 ∷ []) $ free1 ! $ move ! (5 ∷ 6 ∷ []) $ free1 ! $ move ! (3 ∷ 4 ∷ []) $ free1 ! $ free0 ! $ by ! (exits r u e))))))))))
 
-pub next-spec : {M : Type 1} → stated.statement M
+pub next_spec : {M : Type 1} → stated.statement M
 unfolding code.routine tables_of
-next-spec 𝓤 𝓛 𝓜 𝓡 =
+next_spec 𝓤 𝓛 𝓜 𝓡 =
     let 𝓣 = tables_of 𝓤 𝓛.H 𝓜 (tables 𝓤 𝓛.H 𝓜 𝓡 code.env) in
     let known = cited 𝓤 𝓛.H (Find 𝓛 𝓜.mem 𝓡.run) 𝓜 𝓡 code.env #marks·find find-def.routine code.calls-marks::find (find-thm.met 𝓤 𝓛 𝓜 𝓡) in
     entered 𝓤 𝓛.H (triple_of 𝓛 next.signature (next.spec 𝓛 𝓜.mem 𝓡.run))
     (tables 𝓤 𝓛.H 𝓜 𝓡 code.env).C (tables 𝓤 𝓛.H 𝓜 𝓡 code.env).Λ #mark_reader·next code.function (code.unfolded 𝓤 𝓛.H 𝓜 𝓡)
-    (meets-over 𝓛 (next.ended).signature.result (next.clauses 𝓛 𝓜.mem 𝓡.run) (WpFn 𝓤 𝓛.H 𝓣.C 𝓣.Λ code.function) (WpFn-mono 𝓤 𝓛.H 𝓛.laws 𝓣 code.function)
+    (meets_over 𝓛 (next.ended).signature.result (next.clauses 𝓛 𝓜.mem 𝓡.run) (WpFn 𝓤 𝓛.H 𝓣.C 𝓣.Λ code.function) (WpFn-mono 𝓤 𝓛.H 𝓛.laws 𝓣 code.function)
     (λ κ q d st g. walk 𝓛 𝓜.mem 𝓡.run κ q d st 𝓣.C 𝓣.Λ (fm_of 𝓤 𝓛.H 𝓛.laws 𝓣) known))

@@ -1,7 +1,7 @@
 -- `marks::find` meets its contract.
 -- Assumes nothing.
 use borrow.Author.Rules.{rules}
-use Rattle.marks.proofs.Steps.{step-too-long, step_past, step-none, step-some}
+use Rattle.marks.proofs.Steps.{step_too_long, step_past, step_none, step_some}
 use Rattle.marks.proofs.find.Statement.{statement}
 use Rattle.marks.proofs.find.Tie as tie
 
@@ -12,12 +12,12 @@ find_spec =
     (λ c. search rules)
     (λ c. search rules)
     (λ c κs. search rules)
-    (λ c. search (rules, step-too-long))
+    (λ c. search (rules, step_too_long))
     (λ c κs. search rules)
     (λ c. search (rules, step_past))
     (λ c κs. search rules)
     (λ c κs. search rules)
-    (λ c. search (rules, step-none))
+    (λ c. search (rules, step_none))
     (λ c. search rules)
     (λ c κs. search rules)
-    (λ c. search (rules, step-some)))
+    (λ c. search (rules, step_some)))

@@ -1,7 +1,7 @@
 -- `marks::take` meets its contract.
 -- Assumes nothing.
 use borrow.Author.Rules.{rules}
-use Rattle.marks.proofs.Verdicts.{room, stays, moves-on}
+use Rattle.marks.proofs.Verdicts.{room, stays, moves_on}
 use Rattle.marks.proofs.take.Statement.{statement}
 use Rattle.marks.proofs.take.Tie as tie
 
@@ -27,7 +27,7 @@ returns : tie.Need-returns
 returns c = search (rules, stays)
 
 returns-2 : tie.Need-returns-2
-returns-2 c = search (rules, moves-on)
+returns-2 c = search (rules, moves_on)
 
 pub take_spec : {M : Type 1} → statement M
 take_spec =

@@ -1,8 +1,8 @@
 -- `night::finish` meets its contract.
 -- Assumes nothing.
 use borrow.Author.Rules.{rules}
-use Rattle.text.proofs.Sizes.{put-size}
-use Rattle.night.proofs.Turning.{closing-more, closing-failed, closing-done}
+use Rattle.text.proofs.Sizes.{put_size}
+use Rattle.night.proofs.Turning.{closing_more, closing_failed, closing_done}
 use Rattle.night.proofs.finish.Statement.{statement}
 use Rattle.night.proofs.finish.Tie as tie
 
@@ -15,9 +15,9 @@ finish_spec =
     (λ c. search rules)
     (λ c κs. search rules)
     (λ c. search rules)
-    (λ c. search (rules, put-size))
+    (λ c. search (rules, put_size))
     (λ c κs. search rules)
-    (λ c. search (rules, closing-more))
-    (λ c. search (rules, closing-failed))
+    (λ c. search (rules, closing_more))
+    (λ c. search (rules, closing_failed))
     (λ c. search rules)
-    (λ c. search (rules, closing-done)))
+    (λ c. search (rules, closing_done)))

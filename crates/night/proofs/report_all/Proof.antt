@@ -3,7 +3,7 @@
 use borrow.Author.Rules.{rules}
 use Prim.Native.Nat.{◌-◌}
 use lib.ListN.{length}
-use Rattle.night.proofs.Reporting.{Passing, all-starts, told-size, all-failed, all-over, all-less, all-goes-on}
+use Rattle.night.proofs.Reporting.{Passing, all_starts, told_size, all_failed, all_over, all_less, all_goes_on}
 use Rattle.night.proofs.report_all.Statement.{statement}
 use Rattle.night.proofs.report_all.Tie as tie
 
@@ -13,20 +13,20 @@ invariant-loop table edition state piece out₀ tally₀ at₀ out tally at = Pa
 abbrev decreases-loop : tie.decreases-loop
 decreases-loop table edition state piece out₀ tally₀ at₀ out tally at = length piece - at
 
-pub report-all-spec : {M : Type 1} → statement M
-report-all-spec =
+pub report_all_spec : {M : Type 1} → statement M
+report_all_spec =
     tie.close
     (tie.spec
     invariant-loop
     decreases-loop
-    (λ c. search (rules, all-starts))
+    (λ c. search (rules, all_starts))
     (λ c κs. (search rules, (search rules, (search rules, (search rules, search rules)))))
     (λ c. search rules)
-    (λ c. search (rules, told-size))
+    (λ c. search (rules, told_size))
     (λ c κs. search rules)
     (λ c. search rules)
-    (λ c. search (rules, all-failed))
+    (λ c. search (rules, all_failed))
     (λ c. search rules)
-    (λ c. search (rules, all-over))
-    (λ c. search (rules, all-less))
-    (λ c. search (rules, all-goes-on)))
+    (λ c. search (rules, all_over))
+    (λ c. search (rules, all_less))
+    (λ c. search (rules, all_goes_on)))

@@ -1,7 +1,7 @@
 -- `night::run` is safe: the buffers have room, and the search starts with nothing taken and nothing heard.
 -- Assumes nothing.
 use borrow.Author.Rules.{rules}
-use Rattle.text.proofs.Sizes.{put-size}
+use Rattle.text.proofs.Sizes.{put_size}
 use Rattle.night.proofs.run.Statement.{statement}
 use Rattle.night.proofs.run.Tie as tie
 
@@ -15,7 +15,7 @@ run_spec =
     (λ c. search rules)
     (λ c κs. search rules)
     (λ c. search rules)
-    (λ c. search (rules, put-size))
+    (λ c. search (rules, put_size))
     (λ c κs. search rules)
     (λ c. search rules)
     (λ c. search rules)

@@ -1,7 +1,7 @@
 -- `night::turn` meets its contract.
 -- Assumes nothing.
 use borrow.Author.Rules.{rules}
-use Rattle.night.proofs.Turning.{read-size, turn-goes}
+use Rattle.night.proofs.Turning.{read_size, turn_goes}
 use Rattle.night.proofs.turn.Statement.{statement}
 use Rattle.night.proofs.turn.Tie as tie
 
@@ -11,8 +11,8 @@ turn_spec =
     (tie.spec
     (λ c κs. search rules)
     (λ c. search rules)
-    (λ c. search (rules, read-size))
+    (λ c. search (rules, read_size))
     (λ c κs. search rules)
     (λ c. search rules)
     (λ c. search rules)
-    (λ c. search (rules, turn-goes)))
+    (λ c. search (rules, turn_goes)))

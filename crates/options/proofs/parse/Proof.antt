@@ -13,8 +13,8 @@ invariant-loop word number₀ i₀ number i = Parsing word number i
 abbrev decreases-loop : tie.decreases-loop
 decreases-loop word number₀ i₀ number i = length word - i
 
-pub parse-spec : {M : Type 1} → statement M
-parse-spec =
+pub parse_spec : {M : Type 1} → statement M
+parse_spec =
     tie.close
     (tie.spec
     invariant-loop

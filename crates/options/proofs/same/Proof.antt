@@ -3,7 +3,7 @@
 use borrow.Author.Rules.{rules}
 use Prim.Native.Nat.{◌-◌}
 use lib.ListN.{length}
-use Rattle.options.proofs.Comparing.{other_length, Comparing, starts, second-inside, differs, goes_on, ends}
+use Rattle.options.proofs.Comparing.{other_length, Comparing, starts, second_inside, differs, goes_on, ends}
 use Rattle.options.proofs.same.Statement.{statement}
 use Rattle.options.proofs.same.Tie as tie
 
@@ -22,7 +22,7 @@ same_spec =
     (λ c. search (rules, other_length))
     (λ c. search (rules, starts))
     (λ c. search rules)
-    (λ c. search (rules, second-inside))
+    (λ c. search (rules, second_inside))
     (λ c. search (rules, differs))
     (λ c. search rules)
     (λ c. search rules)

@@ -2,10 +2,10 @@
 -- read on, and what is kept is no longer than a line where none is wrong.
 -- Assumes nothing.
 use borrow.Author.Rules.{rules}
-use Rattle.text.proofs.Sizes.{part-size, put-size}
-use Rattle.walk.proofs.Keeping.{text-inside}
-use Rattle.streams.proofs.Rounds.{has_room, kept-inside}
-use Rattle.pack.proofs.Rounds.{Kept, begins, packs-on, last-short, last_fits}
+use Rattle.text.proofs.Sizes.{part_size, put_size}
+use Rattle.walk.proofs.Keeping.{text_inside}
+use Rattle.streams.proofs.Rounds.{has_room, kept_inside}
+use Rattle.pack.proofs.Rounds.{Kept, begins, packs_on, last_short, last_fits}
 use Rattle.pack.proofs.pack.Statement.{statement}
 use Rattle.pack.proofs.pack.Tie as tie
 
@@ -15,8 +15,8 @@ invariant-loop buf₀ out₀ lines₀ judged₀ kept₀ ended₀ turns₀ buf ou
 abbrev decreases-loop : tie.decreases-loop
 decreases-loop buf₀ out₀ lines₀ judged₀ kept₀ ended₀ turns₀ buf out lines judged kept ended turns = turns
 
-pub pack-spec : {M : Type 1} → statement M
-pack-spec =
+pub pack_spec : {M : Type 1} → statement M
+pack_spec =
     tie.close
     (tie.spec
     invariant-loop
@@ -26,16 +26,16 @@ pack-spec =
     (λ c κs. search (rules, has_room))
     (λ c κs. search rules)
     (λ c κs. search rules)
-    (λ c κs. search (rules, text-inside))
+    (λ c κs. search (rules, text_inside))
     (λ c κs. search rules)
     (λ c κs. search rules)
     (λ c. search rules)
-    (λ c. search (rules, packs-on))
-    (λ c. search (rules, kept-inside))
-    (λ c. search (rules, part-size, kept-inside))
-    (λ c κs. (search (rules, last-short), search (rules, last_fits)))
+    (λ c. search (rules, packs_on))
+    (λ c. search (rules, kept_inside))
+    (λ c. search (rules, part_size, kept_inside))
+    (λ c κs. (search (rules, last_short), search (rules, last_fits)))
     (λ c. search rules)
-    (λ c. search (rules, put-size))
+    (λ c. search (rules, put_size))
     (λ c κs. search rules)
     (λ c κs. search rules)
     (λ c. search rules)

@@ -1,7 +1,7 @@
 -- `find` meets its contract. Invariant: none of the letters before i is the one.
 -- Assumes nothing.
 use Rattle.std.proofs.Common.{◌-◌, length, rules}
-use Rattle.packing.proofs.Digits.{Finding, find-starts, find-goes-on, find-stops, find-ends}
+use Rattle.packing.proofs.Digits.{Finding, find_starts, find_goes_on, find_stops, find_ends}
 use Rattle.packing.proofs.find.Statement.{statement}
 use Rattle.packing.proofs.find.Tie as tie
 
@@ -17,10 +17,10 @@ find_spec =
     (tie.spec
     invariant-loop
     decreases-loop
-    (λ c. search (rules, find-starts))
+    (λ c. search (rules, find_starts))
     (λ c. search rules)
-    (λ c. search (rules, find-stops))
+    (λ c. search (rules, find_stops))
     (λ c. search rules)
     (λ c. search rules)
-    (λ c. search (rules, find-goes-on))
-    (λ c. search (rules, find-ends)))
+    (λ c. search (rules, find_goes_on))
+    (λ c. search (rules, find_ends)))

@@ -1,8 +1,8 @@
 -- `pack_lines` meets its contract. Invariant: the lines before `used` are packed, and their records are put.
 -- Assumes nothing.
 use Rattle.std.proofs.Common.{◌-◌, length, rules}
-use Rattle.text.proofs.Sizes.{part-size}
-use Rattle.packing.proofs.Scanning.{Scanning, starts, stops-long, stops-open, stops-wrong, line-inside, line-short, has_room, size_fits, place-fits, less, goes_on}
+use Rattle.text.proofs.Sizes.{part_size}
+use Rattle.packing.proofs.Scanning.{Scanning, starts, stops_long, stops_open, stops_wrong, line_inside, line_short, has_room, size_fits, place_fits, less, goes_on}
 use Rattle.packing.proofs.pack_lines.Statement.{statement}
 use Rattle.packing.proofs.pack_lines.Tie as tie
 
@@ -12,8 +12,8 @@ invariant-loop start piece out₀ at lines₀ used₀ to₀ out lines used to = 
 abbrev decreases-loop : tie.decreases-loop
 decreases-loop start piece out₀ at lines₀ used₀ to₀ out lines used to = length piece - used
 
-pub pack-lines-spec : {M : Type 1} → statement M
-pack-lines-spec =
+pub pack_lines_spec : {M : Type 1} → statement M
+pack_lines_spec =
     tie.close
     (tie.spec
     invariant-loop
@@ -24,20 +24,20 @@ pack-lines-spec =
     (λ c. search rules)
     (λ c κs. search rules)
     (λ c. search rules)
-    (λ c. search (rules, part-size, line-inside))
-    (λ c κs. (search (rules, line-short), search (rules, has_room)))
+    (λ c. search (rules, part_size, line_inside))
+    (λ c κs. (search (rules, line_short), search (rules, has_room)))
     (λ c κs. search rules)
     (λ c κs. search rules)
     (λ c. search (rules, size_fits))
-    (λ c. search (rules, place-fits))
+    (λ c. search (rules, place_fits))
     (λ c. search (rules, less))
     (λ c. search (rules, goes_on))
     (λ c. search rules)
     (λ c. search rules)
     (λ c. search rules)
     (λ c. search rules)
-    (λ c. search (rules, stops-wrong))
+    (λ c. search (rules, stops_wrong))
     (λ c. search rules)
-    (λ c. search (rules, stops-long))
+    (λ c. search (rules, stops_long))
     (λ c. search rules)
-    (λ c. search (rules, stops-open)))
+    (λ c. search (rules, stops_open)))

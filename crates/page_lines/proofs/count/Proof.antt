@@ -1,7 +1,7 @@
 -- `page_lines::count` meets its contract, by the cases of the answers.
 -- Assumes nothing.
 use borrow.Author.Rules.{rules}
-use Rattle.page_lines.proofs.Records.{counts-page, counts-other, counts-refused}
+use Rattle.page_lines.proofs.Records.{counts_page, counts_other, counts_refused}
 use Rattle.page_lines.proofs.count.Statement.{statement}
 use Rattle.page_lines.proofs.count.Tie as tie
 
@@ -16,6 +16,6 @@ count_spec =
     (λ c. search rules)
     (λ c. search rules)
     (λ c. search rules)
-    (λ c. search (rules, counts-page))
-    (λ c. search (rules, counts-other))
-    (λ c. search (rules, counts-refused)))
+    (λ c. search (rules, counts_page))
+    (λ c. search (rules, counts_other))
+    (λ c. search (rules, counts_refused)))

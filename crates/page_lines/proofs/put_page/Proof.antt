@@ -5,8 +5,8 @@ use Rattle.text.proofs.Laid.{put_then}
 use Rattle.page_lines.proofs.put_page.Statement.{statement}
 use Rattle.page_lines.proofs.put_page.Tie as tie
 
-pub put-page-spec : {M : Type 1} → statement M
-put-page-spec =
+pub put_page_spec : {M : Type 1} → statement M
+put_page_spec =
     tie.close
     (tie.spec
     (λ c κs. search rules)

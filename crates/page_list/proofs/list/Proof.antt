@@ -2,30 +2,30 @@
 -- room to read on.
 -- Assumes nothing.
 use borrow.Author.Rules.{rules}
-use Rattle.air.specs.Air.{payloadLimit}
-use Rattle.record.specs.Records.{recordSize}
+use Rattle.air.specs.Air.{payload_limit}
+use Rattle.record.specs.Records.{record_size}
 use Rattle.streams.proofs.Rounds.{Ready, starts, has_room}
-use Rattle.text.proofs.Sizes.{put-size}
-use Rattle.walk.proofs.Keeping.{text-inside}
-use Rattle.page_list.proofs.Rounds.{lists-on}
+use Rattle.text.proofs.Sizes.{put_size}
+use Rattle.walk.proofs.Keeping.{text_inside}
+use Rattle.page_list.proofs.Rounds.{lists_on}
 use Rattle.page_list.proofs.list.Statement.{statement}
 use Rattle.page_list.proofs.list.Tie as tie
 
 abbrev invariant-loop : tie.invariant-loop
-invariant-loop table rules buf₀ out₀ title counts₀ kept₀ ended₀ turns₀ buf out counts kept ended turns = Ready (recordSize payloadLimit) buf₀ out₀ buf out kept turns
+invariant-loop table rules buf₀ out₀ title counts₀ kept₀ ended₀ turns₀ buf out counts kept ended turns = Ready (record_size payload_limit) buf₀ out₀ buf out kept turns
 
 abbrev decreases-loop : tie.decreases-loop
 decreases-loop table rules buf₀ out₀ title counts₀ kept₀ ended₀ turns₀ buf out counts kept ended turns = turns
 
-pub list-spec : {M : Type 1} → statement M
-list-spec =
+pub list_spec : {M : Type 1} → statement M
+list_spec =
     tie.close
     (tie.spec
     invariant-loop
     decreases-loop
     (λ c κs. search rules)
     (λ c. search rules)
-    (λ c. search (rules, put-size))
+    (λ c. search (rules, put_size))
     (λ c κs. search rules)
     (λ c. search rules)
     (λ c. search rules)
@@ -33,14 +33,14 @@ list-spec =
     (λ c κs. search (rules, has_room))
     (λ c κs. search rules)
     (λ c κs. search rules)
-    (λ c κs. search (rules, text-inside))
+    (λ c κs. search (rules, text_inside))
     (λ c κs. search rules)
     (λ c κs. search rules)
     (λ c. search rules)
-    (λ c. search (rules, lists-on))
+    (λ c. search (rules, lists_on))
     (λ c κs. search rules)
     (λ c. search rules)
-    (λ c. search (rules, put-size))
+    (λ c. search (rules, put_size))
     (λ c κs. search rules)
     (λ c. search rules)
     (λ c. search rules)

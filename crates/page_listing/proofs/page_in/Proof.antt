@@ -23,7 +23,7 @@ read-page-requires c κs = search rules
 returns : tie.Need-returns
 returns c = search (rules, reads)
 
-pub page-in-spec : {M : Type 1} → statement M
-page-in-spec =
+pub page_in_spec : {M : Type 1} → statement M
+page_in_spec =
     tie.close
     (tie.spec add-end sub-read-page part-read-page-start part-read-page-end read-page-requires returns)

@@ -5,8 +5,8 @@ use Rattle.record_writer.proofs.Putting.{put_record}
 use Rattle.record_writer.proofs.put_record.Statement.{statement}
 use Rattle.record_writer.proofs.put_record.Tie as tie
 
-pub put-record-spec : {M : Type 1} → statement M
-put-record-spec =
+pub put_record_spec : {M : Type 1} → statement M
+put_record_spec =
     tie.close
     (tie.spec
     (λ c. search rules)

@@ -2,8 +2,8 @@
 -- Assumes nothing.
 use borrow.Author.Rules.{rules}
 use Rattle.base.specs.Plain.{◌-◌}
-use Rattle.text.proofs.Sizes.{put-size}
-use Rattle.report_list.proofs.Rounds.{Writing, starts-writing, fewer, writes-on}
+use Rattle.text.proofs.Sizes.{put_size}
+use Rattle.report_list.proofs.Rounds.{Writing, starts_writing, fewer, writes_on}
 use Rattle.report_list.proofs.write_cuts.Statement.{statement}
 use Rattle.report_list.proofs.write_cuts.Tie as tie
 
@@ -13,8 +13,8 @@ invariant-loop out₀ cuts files from₀ out from = Writing files out₀ out fro
 abbrev decreases-loop : tie.decreases-loop
 decreases-loop out₀ cuts files from₀ out from = files - from
 
-pub write-cuts-spec : {M : Type 1} → statement M
-write-cuts-spec = tie.close (tie.spec
-    invariant-loop decreases-loop (λ c. search (rules, starts-writing)) (λ c κs. search rules)
-    (λ c. search rules) (λ c. search (rules, put-size)) (λ c κs. search rules) (λ c. search rules) (λ c. search rules)
-    (λ c. search (rules, fewer)) (λ c. search (rules, writes-on)) (λ c. search rules) (λ c. search rules))
+pub write_cuts_spec : {M : Type 1} → statement M
+write_cuts_spec = tie.close (tie.spec
+    invariant-loop decreases-loop (λ c. search (rules, starts_writing)) (λ c κs. search rules)
+    (λ c. search rules) (λ c. search (rules, put_size)) (λ c κs. search rules) (λ c. search rules) (λ c. search rules)
+    (λ c. search (rules, fewer)) (λ c. search (rules, writes_on)) (λ c. search rules) (λ c. search rules))

@@ -5,5 +5,5 @@ use Rattle.base.proofs.Tests.{tests}
 use Rattle.reporting.proofs.fitting.Statement.{statement}
 use Rattle.reporting.proofs.fitting.Tie as tie
 
-pub fitting-spec : {M : Type 1} → statement M
-fitting-spec = tie.close (tie.spec (λ c. search rules) (λ c. search rules) (λ c. search (rules, tests)) (λ c. search (rules, tests)))
+pub fitting_spec : {M : Type 1} → statement M
+fitting_spec = tie.close (tie.spec (λ c. search rules) (λ c. search rules) (λ c. search (rules, tests)) (λ c. search (rules, tests)))

@@ -3,7 +3,7 @@
 use borrow.Author.Rules.{rules}
 use Prim.Native.Nat.{◌-◌}
 use lib.ListN.{length}
-use Rattle.reporting.proofs.Telling.{Telling, tell-starts, tell-inside, tell-line, tell-ends, tell-over, tell-room, tell-less, tell-goes-on}
+use Rattle.reporting.proofs.Telling.{Telling, tell_starts, tell_inside, tell_line, tell_ends, tell_over, tell_room, tell_less, tell_goes_on}
 use Rattle.reporting.proofs.put_marks.Statement.{statement}
 use Rattle.reporting.proofs.put_marks.Tie as tie
 
@@ -13,19 +13,19 @@ invariant-loop table edition state piece from out₀ tally₀ to₀ at₀ out ta
 abbrev decreases-loop : tie.decreases-loop
 decreases-loop table edition state piece from out₀ tally₀ to₀ at₀ out tally to at = length piece - at
 
-pub put-marks-spec : {M : Type 1} → statement M
-put-marks-spec =
+pub put_marks_spec : {M : Type 1} → statement M
+put_marks_spec =
     tie.close
     (tie.spec
     invariant-loop
     decreases-loop
-    (λ c. search (rules, tell-starts))
-    (λ c. search (rules, tell-inside))
+    (λ c. search (rules, tell_starts))
+    (λ c. search (rules, tell_inside))
     (λ c κs. search rules)
     (λ c. search rules)
-    (λ c. search (rules, tell-over))
-    (λ c κs. (search rules, (search (rules, tell-room), search (rules, tell-line))))
-    (λ c. search (rules, tell-less))
-    (λ c. search (rules, tell-goes-on))
+    (λ c. search (rules, tell_over))
+    (λ c κs. (search rules, (search (rules, tell_room), search (rules, tell_line))))
+    (λ c. search (rules, tell_less))
+    (λ c. search (rules, tell_goes_on))
     (λ c. search rules)
-    (λ c. search (rules, tell-ends)))
+    (λ c. search (rules, tell_ends)))

@@ -5,8 +5,8 @@ use Rattle.base.proofs.Tests.{tests}
 use Rattle.reporting.proofs.stop_after.Statement.{statement}
 use Rattle.reporting.proofs.stop_after.Tie as tie
 
-pub stop-after-spec : {M : Type 1} → statement M
-stop-after-spec =
+pub stop_after_spec : {M : Type 1} → statement M
+stop_after_spec =
     tie.close
     (tie.spec
     (λ c. search rules)

@@ -5,8 +5,8 @@ use Rattle.text.proofs.Laid.{put_then}
 use Rattle.search_lines.proofs.put_ending.Statement.{statement}
 use Rattle.search_lines.proofs.put_ending.Tie as tie
 
-pub put-ending-spec : {M : Type 1} → statement M
-put-ending-spec =
+pub put_ending_spec : {M : Type 1} → statement M
+put_ending_spec =
     tie.close
     (tie.spec
     (λ c κs. search rules)

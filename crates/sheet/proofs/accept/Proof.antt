@@ -5,8 +5,8 @@ use Rattle.sheet.proofs.Offering.{accepts}
 use Rattle.sheet.proofs.accept.Statement.{statement}
 use Rattle.sheet.proofs.accept.Tie as tie
 
-pub accept-spec : {M : Type 1} → statement M
-accept-spec =
+pub accept_spec : {M : Type 1} → statement M
+accept_spec =
     tie.close
     (tie.spec
     (λ c. search rules)

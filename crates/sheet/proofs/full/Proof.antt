@@ -5,5 +5,5 @@ use Rattle.sheet.proofs.Offering.{fills}
 use Rattle.sheet.proofs.full.Statement.{statement}
 use Rattle.sheet.proofs.full.Tie as tie
 
-pub full-spec : {M : Type 1} → statement M
-full-spec = tie.close (tie.spec (λ c κs. search rules) (λ c. search (rules, fills)))
+pub full_spec : {M : Type 1} → statement M
+full_spec = tie.close (tie.spec (λ c κs. search rules) (λ c. search (rules, fills)))

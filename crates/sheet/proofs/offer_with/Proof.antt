@@ -2,20 +2,20 @@
 -- Assumes nothing.
 use borrow.Author.Rules.{rules}
 use Rattle.base.specs.declared.Edition.TheVariants.{Flown}
-use Rattle.sheet.proofs.Offering.{itself, asGiven, gives-17, has_room, mine, gives-22}
+use Rattle.sheet.proofs.Offering.{itself, as_given, gives_17, has_room, mine, gives_22}
 use Rattle.sheet.proofs.offer_with.Statement.{statement}
 use Rattle.sheet.proofs.offer_with.Tie as tie
 
-pub offer-with-spec : {M : Type 1} → statement M
-offer-with-spec =
+pub offer_with_spec : {M : Type 1} → statement M
+offer_with_spec =
     tie.close
     (tie.spec
     (λ c κs. search rules)
     (λ c κs. search rules)
     (λ c κs. search rules)
-    (λ c. search (rules, gives-17 Flown itself asGiven))
+    (λ c. search (rules, gives_17 Flown itself as_given))
     (λ c κs. search rules)
     (λ c κs. search (rules, has_room Flown itself, mine))
     (λ c. search rules)
     (λ c κs. search rules)
-    (λ c. search (rules, gives-22 Flown itself asGiven)))
+    (λ c. search (rules, gives_22 Flown itself as_given)))

@@ -2,18 +2,18 @@
 -- Assumes nothing.
 use borrow.Author.Rules.{rules}
 use Rattle.base.specs.declared.Edition.TheVariants.{Flown}
-use Rattle.sheet.proofs.Offering.{itself, asGiven, has-record, takes, takes-refusal}
+use Rattle.sheet.proofs.Offering.{itself, as_given, has_record, takes, takes_refusal}
 use Rattle.sheet.proofs.take_in.Statement.{statement}
 use Rattle.sheet.proofs.take_in.Tie as tie
 
-pub take-in-spec : {M : Type 1} → statement M
-take-in-spec =
+pub take_in_spec : {M : Type 1} → statement M
+take_in_spec =
     tie.close
     (tie.spec
     (λ c κs. search rules)
     (λ c. search rules)
-    (λ c κs. search (rules, has-record Flown itself asGiven))
+    (λ c κs. search (rules, has_record Flown itself as_given))
     (λ c. search rules)
     (λ c κs. search rules)
-    (λ c. search (rules, takes Flown itself asGiven))
-    (λ c. search (rules, takes-refusal Flown itself asGiven)))
+    (λ c. search (rules, takes Flown itself as_given))
+    (λ c. search (rules, takes_refusal Flown itself as_given)))

@@ -2,7 +2,7 @@
 -- Assumes nothing.
 use borrow.Author.Rules.{rules}
 use Prim.Native.Nat.{◌-◌}
-use Rattle.sheet_lines.proofs.Loops.{Heard, heard-starts, heard-place, heard-room, heard-goes-on, heard-ends, heard-short}
+use Rattle.sheet_lines.proofs.Loops.{Heard, heard_starts, heard_place, heard_room, heard_goes_on, heard_ends, heard_short}
 use Rattle.sheet_lines.proofs.put_sources.Statement.{statement}
 use Rattle.sheet_lines.proofs.put_sources.Tie as tie
 
@@ -12,20 +12,20 @@ invariant-loop out₀ at edition sheet records to₀ k₀ out to k = Heard editi
 abbrev decreases-loop : tie.decreases-loop
 decreases-loop out₀ at edition sheet records to₀ k₀ out to k = records - k
 
-pub put-sources-spec : {M : Type 1} → statement M
-put-sources-spec =
+pub put_sources_spec : {M : Type 1} → statement M
+put_sources_spec =
     tie.close
     (tie.spec
     invariant-loop
     decreases-loop
     (λ c κs. search rules)
-    (λ c. search (rules, heard-starts))
-    (λ c. search (rules, heard-place))
-    (λ c. search (rules, heard-place))
-    (λ c. search (rules, heard-place))
-    (λ c κs. search (rules, heard-room))
+    (λ c. search (rules, heard_starts))
+    (λ c. search (rules, heard_place))
+    (λ c. search (rules, heard_place))
+    (λ c. search (rules, heard_place))
+    (λ c κs. search (rules, heard_room))
     (λ c. search rules)
     (λ c. search rules)
-    (λ c. search (rules, heard-goes-on))
+    (λ c. search (rules, heard_goes_on))
     (λ c. search rules)
-    (λ c. (search (rules, heard-ends), search (rules, heard-short))))
+    (λ c. (search (rules, heard_ends), search (rules, heard_short))))

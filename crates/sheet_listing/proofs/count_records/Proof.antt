@@ -3,7 +3,7 @@
 use borrow.Author.Rules.{rules}
 use Prim.Native.Nat.{◌-◌}
 use lib.ListN.{length}
-use Rattle.sheet_listing.proofs.Walking.{Walking, starts, stops-long, stops-short, stops-full, all_there, size_fits, place-fits, less, has-record, record-place, goes_on}
+use Rattle.sheet_listing.proofs.Walking.{Walking, starts, stops_long, stops_short, stops_full, all_there, size_fits, place_fits, less, has_record, record_place, goes_on}
 use Rattle.sheet_listing.proofs.count_records.Statement.{statement}
 use Rattle.sheet_listing.proofs.count_records.Tie as tie
 
@@ -13,8 +13,8 @@ invariant-loop table rules piece totals₀ tally₀ used₀ totals tally used = 
 abbrev decreases-loop : tie.decreases-loop
 decreases-loop table rules piece totals₀ tally₀ used₀ totals tally used = length piece - used
 
-pub count-records-spec : {M : Type 1} → statement M
-count-records-spec =
+pub count_records_spec : {M : Type 1} → statement M
+count_records_spec =
     tie.close
     (tie.spec
     invariant-loop
@@ -28,18 +28,18 @@ count-records-spec =
     (λ c κs. search rules)
     (λ c κs. (search rules, (search rules, search (rules, all_there))))
     (λ c. search (rules, size_fits))
-    (λ c. search (rules, place-fits))
+    (λ c. search (rules, place_fits))
     (λ c κs. search rules)
-    (λ c. search (rules, record-place))
-    (λ c. search (rules, has-record))
+    (λ c. search (rules, record_place))
+    (λ c. search (rules, has_record))
     (λ c κs. search rules)
-    (λ c. search (rules, record-place))
-    (λ c. search (rules, has-record))
+    (λ c. search (rules, record_place))
+    (λ c. search (rules, has_record))
     (λ c κs. search rules)
     (λ c. search (rules, less))
     (λ c. search (rules, goes_on))
     (λ c. search rules)
     (λ c. search rules)
-    (λ c. search (rules, stops-full))
-    (λ c. search (rules, stops-long))
-    (λ c. search (rules, stops-short)))
+    (λ c. search (rules, stops_full))
+    (λ c. search (rules, stops_long))
+    (λ c. search (rules, stops_short)))

@@ -5,8 +5,8 @@ use Rattle.sign.proofs.Agreeing.{past_end}
 use Rattle.sign.proofs.element.Statement.{statement}
 use Rattle.sign.proofs.element.Tie as tie
 
-pub element-spec : {M : Type 1} → statement M
-element-spec =
+pub element_spec : {M : Type 1} → statement M
+element_spec =
     tie.close
     (tie.spec
     (λ c. search rules)

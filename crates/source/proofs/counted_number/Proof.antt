@@ -6,8 +6,8 @@ use Rattle.source.specs.Counts.{counted}
 use Rattle.source.proofs.counted_number.Statement.{statement}
 use Rattle.source.proofs.counted_number.Tie as tie
 
-pub counted-number-spec : {M : Type 1} → statement M
-counted-number-spec =
+pub counted_number_spec : {M : Type 1} → statement M
+counted_number_spec =
     tie.close
     (tie.spec
     (λ c. search (rules, past_end counted))

@@ -5,5 +5,5 @@ use Rattle.source.proofs.Lanes.{sums}
 use Rattle.source.proofs.summed.Statement.{statement}
 use Rattle.source.proofs.summed.Tie as tie
 
-pub summed-spec : {M : Type 1} → statement M
-summed-spec = tie.close (tie.spec (λ c κs. search rules) (λ c κs. search rules) (λ c. search (rules, sums)))
+pub summed_spec : {M : Type 1} → statement M
+summed_spec = tie.close (tie.spec (λ c κs. search rules) (λ c κs. search rules) (λ c. search (rules, sums)))

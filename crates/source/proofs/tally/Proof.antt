@@ -5,8 +5,8 @@ use Rattle.source.proofs.Growing.{tallied}
 use Rattle.source.proofs.tally.Statement.{statement}
 use Rattle.source.proofs.tally.Tie as tie
 
-pub tally-spec : {M : Type 1} → statement M
-tally-spec =
+pub tally_spec : {M : Type 1} → statement M
+tally_spec =
     tie.close
     (tie.spec
     (λ c κs. search rules)

@@ -11,8 +11,8 @@ invariant-loop out₀ at n end i₀ rest₀ out i rest = Spelled out₀ at n end
 abbrev decreases-loop : tie.decreases-loop
 decreases-loop out₀ at n end i₀ rest₀ out i rest = rest
 
-pub put-decimal-spec : {M : Type 1} → statement M
-put-decimal-spec =
+pub put_decimal_spec : {M : Type 1} → statement M
+put_decimal_spec =
     tie.close
     (tie.spec
     invariant-loop

@@ -1,7 +1,7 @@
 -- `put_digits` meets its contract. Invariant: with the last k digits of `rest`, the text is whole.
 -- Assumes nothing.
 use borrow.Author.Rules.{rules}
-use Rattle.text.proofs.Fixed.{Filled, digit-small, starts, goes_on, ends}
+use Rattle.text.proofs.Fixed.{Filled, digit_small, starts, goes_on, ends}
 use Rattle.text.proofs.put_digits.Statement.{statement}
 use Rattle.text.proofs.put_digits.Tie as tie
 
@@ -11,8 +11,8 @@ invariant-loop out₀ at n base width k₀ rest₀ out k rest = Filled out₀ at
 abbrev decreases-loop : tie.decreases-loop
 decreases-loop out₀ at n base width k₀ rest₀ out k rest = k
 
-pub put-digits-spec : {M : Type 1} → statement M
-put-digits-spec =
+pub put_digits_spec : {M : Type 1} → statement M
+put_digits_spec =
     tie.close
     (tie.spec
     invariant-loop
@@ -20,7 +20,7 @@ put-digits-spec =
     (λ c. search (rules, starts))
     (λ c. search rules)
     (λ c. search rules)
-    (λ c κs. search (rules, digit-small))
+    (λ c κs. search (rules, digit_small))
     (λ c. search rules)
     (λ c. search rules)
     (λ c. search rules)

@@ -13,8 +13,8 @@ invariant-loop out₀ at letters i₀ out i = Copied out₀ at letters out i
 abbrev decreases-loop : tie.decreases-loop
 decreases-loop out₀ at letters i₀ out i = length letters - i
 
-pub put-text-spec : {M : Type 1} → statement M
-put-text-spec =
+pub put_text_spec : {M : Type 1} → statement M
+put_text_spec =
     tie.close
     (tie.spec
     invariant-loop

@@ -2,7 +2,7 @@
 -- Assumes nothing.
 use Prim.Native.Nat.{◌-◌}
 use borrow.Author.Rules.{rules}
-use Rattle.text.proofs.Counting.{Counted, starts, goes_on, ends, ends-short}
+use Rattle.text.proofs.Counting.{Counted, starts, goes_on, ends, ends_short}
 use Rattle.text.proofs.width.Statement.{statement}
 use Rattle.text.proofs.width.Tie as tie
 
@@ -23,4 +23,4 @@ width_spec =
     (λ c. search rules)
     (λ c. search rules)
     (λ c. search (rules, goes_on))
-    (λ c. search (rules, ends, ends-short)))
+    (λ c. search (rules, ends, ends_short)))

@@ -2,22 +2,22 @@
 -- room to read on.
 -- Assumes nothing.
 use borrow.Author.Rules.{rules}
-use Rattle.air.specs.Air.{payloadLimit}
-use Rattle.record.specs.Records.{recordSize}
-use Rattle.walk.proofs.Keeping.{text-inside}
+use Rattle.air.specs.Air.{payload_limit}
+use Rattle.record.specs.Records.{record_size}
+use Rattle.walk.proofs.Keeping.{text_inside}
 use Rattle.streams.proofs.Rounds.{Ready, starts, has_room}
-use Rattle.unpack.proofs.Rounds.{lists-on}
+use Rattle.unpack.proofs.Rounds.{lists_on}
 use Rattle.unpack.proofs.unpack.Statement.{statement}
 use Rattle.unpack.proofs.unpack.Tie as tie
 
 abbrev invariant-loop : tie.invariant-loop
-invariant-loop buf₀ out₀ front₀ kept₀ ending₀ ended₀ turns₀ buf out front kept ending ended turns = Ready (recordSize payloadLimit) buf₀ out₀ buf out kept turns
+invariant-loop buf₀ out₀ front₀ kept₀ ending₀ ended₀ turns₀ buf out front kept ending ended turns = Ready (record_size payload_limit) buf₀ out₀ buf out kept turns
 
 abbrev decreases-loop : tie.decreases-loop
 decreases-loop buf₀ out₀ front₀ kept₀ ending₀ ended₀ turns₀ buf out front kept ending ended turns = turns
 
-pub unpack-spec : {M : Type 1} → statement M
-unpack-spec =
+pub unpack_spec : {M : Type 1} → statement M
+unpack_spec =
     tie.close
     (tie.spec
     invariant-loop
@@ -27,11 +27,11 @@ unpack-spec =
     (λ c κs. search rules)
     (λ c κs. search rules)
     (λ c κs. search rules)
-    (λ c κs. search (rules, text-inside))
+    (λ c κs. search (rules, text_inside))
     (λ c κs. search rules)
     (λ c κs. search rules)
     (λ c. search rules)
-    (λ c. search (rules, lists-on))
+    (λ c. search (rules, lists_on))
     (λ c κs. search rules)
     (λ c κs. search rules)
     (λ c. search rules)

@@ -3,7 +3,7 @@
 use borrow.Author.Rules.{rules}
 use Prim.Native.Nat.{◌-◌}
 use lib.ListN.{length}
-use Rattle.unpacking.proofs.Lines.{Digits, starts, has_room, goes_on, ends, ends-short}
+use Rattle.unpacking.proofs.Lines.{Digits, starts, has_room, goes_on, ends, ends_short}
 use Rattle.unpacking.proofs.put_bytes.Statement.{statement}
 use Rattle.unpacking.proofs.put_bytes.Tie as tie
 
@@ -13,8 +13,8 @@ invariant-loop out₀ at bytes base width to₀ i₀ out to i = Digits out₀ at
 abbrev decreases-loop : tie.decreases-loop
 decreases-loop out₀ at bytes base width to₀ i₀ out to i = length bytes - i
 
-pub put-bytes-spec : {M : Type 1} → statement M
-put-bytes-spec =
+pub put_bytes_spec : {M : Type 1} → statement M
+put_bytes_spec =
     tie.close
     (tie.spec
     invariant-loop
@@ -27,4 +27,4 @@ put-bytes-spec =
     (λ c. search rules)
     (λ c. search (rules, goes_on))
     (λ c. search rules)
-    (λ c. (search (rules, ends), search (rules, ends-short))))
+    (λ c. (search (rules, ends), search (rules, ends_short))))

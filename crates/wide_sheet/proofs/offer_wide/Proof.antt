@@ -2,21 +2,21 @@
 -- Assumes nothing.
 use borrow.Author.Rules.{rules}
 use Rattle.base.specs.declared.Edition.TheVariants.{Corrected}
-use Rattle.sheet.proofs.Offering.{gives-17, has_room, mine, gives-22}
-use Rattle.wide_sheet.specs.Wide.{held, wideOffered}
+use Rattle.sheet.proofs.Offering.{gives_17, has_room, mine, gives_22}
+use Rattle.wide_sheet.specs.Wide.{held, wide_offered}
 use Rattle.wide_sheet.proofs.offer_wide.Statement.{statement}
 use Rattle.wide_sheet.proofs.offer_wide.Tie as tie
 
-pub offer-wide-spec : {M : Type 1} → statement M
-offer-wide-spec =
+pub offer_wide_spec : {M : Type 1} → statement M
+offer_wide_spec =
     tie.close
     (tie.spec
     (λ c κs. search rules)
     (λ c κs. search rules)
     (λ c κs. search rules)
-    (λ c. search (rules, gives-17 Corrected held wideOffered))
+    (λ c. search (rules, gives_17 Corrected held wide_offered))
     (λ c κs. search rules)
     (λ c κs. search (rules, has_room Corrected held, mine))
     (λ c. search rules)
     (λ c κs. search rules)
-    (λ c. search (rules, gives-22 Corrected held wideOffered)))
+    (λ c. search (rules, gives_22 Corrected held wide_offered)))

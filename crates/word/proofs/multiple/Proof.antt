@@ -1,12 +1,12 @@
 -- `word::multiple` meets its contract: the sum of the multiples of the single coefficients.
 -- Assumes nothing.
 use borrow.Author.Rules.{rules}
-use Rattle.word.proofs.Multiples.{multiple-bits}
+use Rattle.word.proofs.Multiples.{multiple_bits}
 use Rattle.word.proofs.multiple.Statement.{statement}
 use Rattle.word.proofs.multiple.Tie as tie
 
-pub multiple-spec : {M : Type 1} → statement M
-multiple-spec =
+pub multiple_spec : {M : Type 1} → statement M
+multiple_spec =
     tie.close
     (tie.spec
     (λ c. search rules)
@@ -14,4 +14,4 @@ multiple-spec =
     (λ c. search rules)
     (λ c. search rules)
     (λ c. search rules)
-    (λ c. multiple-bits c.args.q))
+    (λ c. multiple_bits c.args.q))

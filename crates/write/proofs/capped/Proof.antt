@@ -5,8 +5,8 @@ use Rattle.write.proofs.SameAnswer.{above, within}
 use Rattle.write.proofs.capped.Statement.{statement}
 use Rattle.write.proofs.capped.Tie as tie
 
-pub capped-spec : {M : Type 1} → statement M
-capped-spec =
+pub capped_spec : {M : Type 1} → statement M
+capped_spec =
     tie.close
     (tie.spec
     (λ c. search rules)

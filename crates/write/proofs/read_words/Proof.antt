@@ -4,18 +4,18 @@ use borrow.Author.Rules.{rules}
 use Prim.Native.Nat.{◌-◌}
 use mathlib.Core.Path.{◌≡◌}
 use lib.ListN.{length}
-use Rattle.header.specs.Fields.{fieldCount}
+use Rattle.header.specs.Fields.{field_count}
 use Rattle.write.proofs.read_words.Statement.{statement}
 use Rattle.write.proofs.read_words.Tie as tie
 
 abbrev invariant-loop : tie.invariant-loop
-invariant-loop values₀ k₀ values k = length values ≡ fieldCount
+invariant-loop values₀ k₀ values k = length values ≡ field_count
 
 abbrev decreases-loop : tie.decreases-loop
-decreases-loop values₀ k₀ values k = fieldCount - k
+decreases-loop values₀ k₀ values k = field_count - k
 
-pub read-words-spec : {M : Type 1} → statement M
-read-words-spec =
+pub read_words_spec : {M : Type 1} → statement M
+read_words_spec =
     tie.close
     (tie.spec
     invariant-loop

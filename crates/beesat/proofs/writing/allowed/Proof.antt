@@ -1,9 +1,9 @@
 -- `allowed` meets its contract: the tests passed say which check is the first that applies.
 -- Assumes nothing.
 use borrow.Author.Rules.{rules}
-use Rattle.beesat.proofs.Passed.{good-ready}
-use Rattle.beesat.proofs.Writable.{field-there}
-use Rattle.beesat.proofs.WriteChecks.{write-refused, gives-38, gives-38-idle, gives-29, may_write}
+use Rattle.beesat.proofs.Passed.{good_ready}
+use Rattle.beesat.proofs.Writable.{field_there}
+use Rattle.beesat.proofs.WriteChecks.{write_refused, gives_38, gives_38_idle, gives_29, may_write}
 use Rattle.beesat.proofs.writing.allowed.Statement.{statement}
 use Rattle.beesat.proofs.writing.allowed.Tie as tie
 
@@ -17,37 +17,37 @@ enum-known-why : tie.Need-enum-known-why
 enum-known-why c = search rules
 
 returns : tie.Need-returns
-returns c = search (rules, write-refused)
+returns c = search (rules, write_refused)
 
 refused-requires : tie.Need-refused-requires
 refused-requires c κs = search rules
 
 returns-2 : tie.Need-returns-2
-returns-2 c = search (rules, gives-38)
+returns-2 c = search (rules, gives_38)
 
 is-idle-requires : tie.Need-is-idle-requires
-is-idle-requires c κs = search (rules, good-ready)
+is-idle-requires c κs = search (rules, good_ready)
 
 refused-requires-2 : tie.Need-refused-requires-2
 refused-requires-2 c κs = search rules
 
 returns-3 : tie.Need-returns-3
-returns-3 c = search (rules, gives-38-idle)
+returns-3 c = search (rules, gives_38_idle)
 
 fits-requires : tie.Need-fits-requires
-fits-requires c κs = search (rules, field-there)
+fits-requires c κs = search (rules, field_there)
 
 refused-requires-3 : tie.Need-refused-requires-3
 refused-requires-3 c κs = search rules
 
 returns-4 : tie.Need-returns-4
-returns-4 c = search (rules, gives-29)
+returns-4 c = search (rules, gives_29)
 
 returns-5 : tie.Need-returns-5
 returns-5 c = search (rules, may_write)
 
-pub allowed-spec : {M : Type 1} → statement M
-allowed-spec =
+pub allowed_spec : {M : Type 1} → statement M
+allowed_spec =
     tie.close
     (tie.spec
     judge-requires

@@ -3,13 +3,13 @@
 use mathlib.Core.Path.{refl}
 use Rattle.base.specs.Lists.{tabulate}
 use Rattle.crc.specs.Steps.{step_of, steps_of}
-use Rattle.crc.specs.Crc.{crcStep}
+use Rattle.crc.specs.Crc.{crc_step}
 use Rattle.crc.proofs.steps16.whole.Statement.{statement}
 use Rattle.crc.proofs.steps16.whole.Tie as tie
 
 returns : tie.Need-returns
-unfolding tabulate crcStep step_of steps_of
+unfolding tabulate crc_step step_of steps_of
 returns c = refl
 
-pub whole-spec : {M : Type 1} → statement M
-whole-spec = tie.close (tie.spec returns)
+pub whole_spec : {M : Type 1} → statement M
+whole_spec = tie.close (tie.spec returns)

@@ -2,8 +2,8 @@
 -- Assumes nothing.
 use borrow.Author.Rules.{rules}
 use Prim.Native.Nat.{◌-◌}
-use Rattle.marks.specs.Scanning.{blockSize}
-use Rattle.marks.proofs.Seeking.{Clearing, clear-starts, clear-goes-on, clear-ends}
+use Rattle.marks.specs.Scanning.{block_size}
+use Rattle.marks.proofs.Seeking.{Clearing, clear_starts, clear_goes_on, clear_ends}
 use Rattle.marks.proofs.scanning.clear.Statement.{statement}
 use Rattle.marks.proofs.scanning.clear.Tie as tie
 
@@ -11,7 +11,7 @@ abbrev invariant-loop : tie.invariant-loop
 invariant-loop bits k all₀ i₀ all i = Clearing bits k i all
 
 abbrev decreases-loop : tie.decreases-loop
-decreases-loop bits k all₀ i₀ all i = blockSize - i
+decreases-loop bits k all₀ i₀ all i = block_size - i
 
 pub clear_spec : {M : Type 1} → statement M
 clear_spec =
@@ -19,10 +19,10 @@ clear_spec =
     (tie.spec
     invariant-loop
     decreases-loop
-    (λ c. search (rules, clear-starts))
+    (λ c. search (rules, clear_starts))
     (λ c. search rules)
     (λ c κs. search rules)
     (λ c. search rules)
     (λ c. search rules)
-    (λ c. search (rules, clear-goes-on))
-    (λ c. search (rules, clear-ends)))
+    (λ c. search (rules, clear_goes_on))
+    (λ c. search (rules, clear_ends)))

@@ -3,32 +3,32 @@
 use borrow.Author.Rules.{rules}
 use Prim.Native.Nat.{◌-◌}
 use mathlib.Core.List.{◌++◌}
-use Rattle.base.proofs.Fill.{Filled, fill-starts, fill-goes-on, fill-whole}
-use Rattle.marks.specs.Scanning.{edgeBits, edge_of}
-use Rattle.marks.proofs.Joining.{elementOf}
+use Rattle.base.proofs.Fill.{Filled, fill_starts, fill_goes_on, fill_whole}
+use Rattle.marks.specs.Scanning.{edge_bits, edge_of}
+use Rattle.marks.proofs.Joining.{element_of}
 use Rattle.marks.proofs.scanning.edge.Statement.{statement}
 use Rattle.marks.proofs.scanning.edge.Tie as tie
 
 abbrev invariant-loop : tie.invariant-loop
-invariant-loop kept piece bits₀ i₀ bits i = Filled (elementOf (kept ++ piece)) edgeBits bits₀ i bits
+invariant-loop kept piece bits₀ i₀ bits i = Filled (element_of (kept ++ piece)) edge_bits bits₀ i bits
 
 abbrev decreases-loop : tie.decreases-loop
-decreases-loop kept piece bits₀ i₀ bits i = edgeBits - i
+decreases-loop kept piece bits₀ i₀ bits i = edge_bits - i
 
 returns : tie.Need-returns invariant-loop decreases-loop
 unfolding edge_of
-returns c = search (rules, fill-whole)
+returns c = search (rules, fill_whole)
 
-pub edge-spec : {M : Type 1} → statement M
-edge-spec =
+pub edge_spec : {M : Type 1} → statement M
+edge_spec =
     tie.close
     (tie.spec
     invariant-loop
     decreases-loop
-    (λ c. search (rules, fill-starts))
+    (λ c. search (rules, fill_starts))
     (λ c κs. search rules)
     (λ c. search rules)
     (λ c. search rules)
     (λ c. search rules)
-    (λ c. search (rules, fill-goes-on))
+    (λ c. search (rules, fill_goes_on))
     returns)

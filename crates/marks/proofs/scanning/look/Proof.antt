@@ -2,7 +2,7 @@
 -- Assumes nothing.
 use borrow.Author.Rules.{rules}
 use Prim.Native.Nat.{◌-◌}
-use Rattle.marks.proofs.Seeking.{Seeking, seek-starts, look-goes-on, look-stops, look-ends}
+use Rattle.marks.proofs.Seeking.{Seeking, seek_starts, look_goes_on, look_stops, look_ends}
 use Rattle.marks.proofs.scanning.look.Statement.{statement}
 use Rattle.marks.proofs.scanning.look.Tie as tie
 
@@ -18,10 +18,10 @@ look_spec =
     (tie.spec
     invariant-loop
     decreases-loop
-    (λ c. search (rules, seek-starts))
+    (λ c. search (rules, seek_starts))
     (λ c κs. search rules)
-    (λ c. search (rules, look-stops))
+    (λ c. search (rules, look_stops))
     (λ c. search rules)
     (λ c. search rules)
-    (λ c. search (rules, look-goes-on))
-    (λ c. search (rules, look-ends)))
+    (λ c. search (rules, look_goes_on))
+    (λ c. search (rules, look_ends)))

@@ -1,12 +1,12 @@
 -- `marks::scanning::next_index` meets its contract: the edge first, then the piece.
 -- Assumes nothing.
 use borrow.Author.Rules.{rules}
-use Rattle.marks.proofs.Seeking.{sought-found, sought-join}
+use Rattle.marks.proofs.Seeking.{sought_found, sought_join}
 use Rattle.marks.proofs.scanning.next_index.Statement.{statement}
 use Rattle.marks.proofs.scanning.next_index.Tie as tie
 
-pub next-index-spec : {M : Type 1} → statement M
-next-index-spec =
+pub next_index_spec : {M : Type 1} → statement M
+next_index_spec =
     tie.close
     (tie.spec
     (λ c. search rules)
@@ -15,6 +15,6 @@ next-index-spec =
     (λ c κs. search rules)
     (λ c. search rules)
     (λ c κs. search rules)
-    (λ c. search (rules, sought-found))
+    (λ c. search (rules, sought_found))
     (λ c κs. search rules)
-    (λ c. search (rules, sought-join)))
+    (λ c. search (rules, sought_join)))

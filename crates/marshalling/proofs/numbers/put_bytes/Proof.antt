@@ -10,8 +10,8 @@ invariant-loop reply₀ at bytes k₀ reply k = k ≤ length bytes
 abbrev decreases-loop : tie.decreases-loop
 decreases-loop reply₀ at bytes k₀ reply k = length bytes - k
 
-pub put-bytes-spec : {M : Type 1} → statement M
-put-bytes-spec =
+pub put_bytes_spec : {M : Type 1} → statement M
+put_bytes_spec =
     tie.close
     (tie.spec
     invariant-loop

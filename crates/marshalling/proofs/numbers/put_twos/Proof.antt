@@ -10,8 +10,8 @@ invariant-loop reply₀ at numbers next₀ k₀ reply next k = (k ≤ length num
 abbrev decreases-loop : tie.decreases-loop
 decreases-loop reply₀ at numbers next₀ k₀ reply next k = length numbers - k
 
-pub put-twos-spec : {M : Type 1} → statement M
-put-twos-spec =
+pub put_twos_spec : {M : Type 1} → statement M
+put_twos_spec =
     tie.close
     (tie.spec
     invariant-loop

@@ -12,8 +12,8 @@ invariant-loop bytes k₀ k = Unit {0}
 abbrev decreases-loop : tie.decreases-loop
 decreases-loop bytes k₀ k = length bytes - k
 
-pub all-zero-spec : {M : Type 1} → statement M
-all-zero-spec =
+pub all_zero_spec : {M : Type 1} → statement M
+all_zero_spec =
     tie.close
     (tie.spec
     invariant-loop

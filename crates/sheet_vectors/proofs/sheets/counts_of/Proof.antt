@@ -2,7 +2,7 @@
 -- Assumes nothing.
 use borrow.Author.Rules.{rules}
 use Prim.Native.Nat.{◌-◌}
-use Rattle.source.specs.Counts.{refusalCounts}
+use Rattle.source.specs.Counts.{refusal_counts}
 use Rattle.sheet_vectors.proofs.sheets.counts_of.Statement.{statement}
 use Rattle.sheet_vectors.proofs.sheets.counts_of.Tie as tie
 
@@ -10,10 +10,10 @@ abbrev invariant-loop : tie.invariant-loop
 invariant-loop «record» counts read₀ k₀ read k = Unit {0}
 
 abbrev decreases-loop : tie.decreases-loop
-decreases-loop «record» counts read₀ k₀ read k = refusalCounts - k
+decreases-loop «record» counts read₀ k₀ read k = refusal_counts - k
 
-pub counts-of-spec : {M : Type 1} → statement M
-counts-of-spec =
+pub counts_of_spec : {M : Type 1} → statement M
+counts_of_spec =
     tie.close
     (tie.spec
     invariant-loop

@@ -3,18 +3,18 @@
 use borrow.Author.Rules.{rules}
 use mathlib.Core.Path.{◌≡◌}
 use Prim.Native.Nat.{◌+◌, ◌*◌, ◌-◌, ◌≤◌}
-use Rattle.source.specs.Counts.{refusalCounts}
+use Rattle.source.specs.Counts.{refusal_counts}
 use Rattle.sheet_vectors.proofs.sheets.put_counts.Statement.{statement}
 use Rattle.sheet_vectors.proofs.sheets.put_counts.Tie as tie
 
 abbrev invariant-loop : tie.invariant-loop
-invariant-loop reply₀ at counts next₀ k₀ reply next k = (k ≤ refusalCounts) × (next ≡ at + 4 * k)
+invariant-loop reply₀ at counts next₀ k₀ reply next k = (k ≤ refusal_counts) × (next ≡ at + 4 * k)
 
 abbrev decreases-loop : tie.decreases-loop
-decreases-loop reply₀ at counts next₀ k₀ reply next k = refusalCounts - k
+decreases-loop reply₀ at counts next₀ k₀ reply next k = refusal_counts - k
 
-pub put-counts-spec : {M : Type 1} → statement M
-put-counts-spec =
+pub put_counts_spec : {M : Type 1} → statement M
+put_counts_spec =
     tie.close
     (tie.spec
     invariant-loop

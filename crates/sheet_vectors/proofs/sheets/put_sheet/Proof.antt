@@ -11,8 +11,8 @@ invariant-loop reply₀ sheet sources k₀ reply k = Unit {0}
 abbrev decreases-loop : tie.decreases-loop
 decreases-loop reply₀ sheet sources k₀ reply k = 8 - k
 
-pub put-sheet-spec : {M : Type 1} → statement M
-put-sheet-spec =
+pub put_sheet_spec : {M : Type 1} → statement M
+put_sheet_spec =
     tie.close
     (tie.spec
     invariant-loop

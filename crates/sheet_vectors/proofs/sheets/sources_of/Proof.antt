@@ -11,8 +11,8 @@ invariant-loop «record» sheet sources₀ k₀ sources k = Unit {0}
 abbrev decreases-loop : tie.decreases-loop
 decreases-loop «record» sheet sources₀ k₀ sources k = 8 - k
 
-pub sources-of-spec : {M : Type 1} → statement M
-sources-of-spec =
+pub sources_of_spec : {M : Type 1} → statement M
+sources_of_spec =
     tie.close
     (tie.spec
     invariant-loop

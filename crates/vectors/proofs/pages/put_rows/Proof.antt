@@ -12,8 +12,8 @@ invariant-loop reply₀ at rows next₀ k₀ reply next k = (k ≤ 17) × (next 
 abbrev decreases-loop : tie.decreases-loop
 decreases-loop reply₀ at rows next₀ k₀ reply next k = 17 - k
 
-pub put-rows-spec : {M : Type 1} → statement M
-put-rows-spec =
+pub put_rows_spec : {M : Type 1} → statement M
+put_rows_spec =
     tie.close
     (tie.spec
     invariant-loop

@@ -11,8 +11,8 @@ invariant-loop «record» rows₀ r₀ rows r = Unit {0}
 abbrev decreases-loop : tie.decreases-loop
 decreases-loop «record» rows₀ r₀ rows r = 17 - r
 
-pub rows-of-spec : {M : Type 1} → statement M
-rows-of-spec =
+pub rows_of_spec : {M : Type 1} → statement M
+rows_of_spec =
     tie.close
     (tie.spec
     invariant-loop

@@ -2,13 +2,13 @@
 -- Assumes nothing.
 use lib.Count.{ones_in}
 use Rattle.base.specs.Lists.{tabulate}
-use Rattle.word.proofs.Rows.{listed, flipsAmong, syndromes-among}
+use Rattle.word.proofs.Rows.{listed, flips_among, syndromes_among}
 use Rattle.word.proofs.table.whole.Statement.{statement}
 use Rattle.word.proofs.table.whole.Tie as tie
 
 returns : tie.Need-returns
-unfolding tabulate flipsAmong listed ones_in
-returns c = syndromes-among
+unfolding tabulate flips_among listed ones_in
+returns c = syndromes_among
 
-pub whole-spec : {M : Type 1} → statement M
-whole-spec = tie.close (tie.spec returns)
+pub whole_spec : {M : Type 1} → statement M
+whole_spec = tie.close (tie.spec returns)
