@@ -1,7 +1,7 @@
 """The programs that the commands run, built where they are missing or older than their sources.
 
-A stamp beside a program says which sources it was built from, and which program came out. It is written after the
-build, which is after the proof, and taken away before; so a build that failed or was ended leaves none.
+A program's stamp says which sources it was built from, and which program came out. It is written after the build,
+which is after the proof, and taken away before; so a build that failed or was ended leaves none.
 """
 
 import contextlib
@@ -21,15 +21,17 @@ class Program:
 
     def __init__(self, top, name, binary, sources, words, needs, crates=()):
         self.top = top
+        # a program of the crates is built in its own crate's folder
+        self.folder = os.path.join(top, "crates", name) if crates else top
         self.name = name
         self.binary = os.path.join(top, *binary)
         # a function that gives the names of the files that decide about the program
         self.sources = sources
         self.words = words
-        # the command that builds it, as it is told of, and the crates that this proves
+        # the command that builds it, as it is told of, and the crates that this proves, in their order
         self.needs = needs
         self.crates = crates
-        self.stamp = self.binary + ".stamp"
+        self.stamp = os.path.join(top, "target", f"{name}.stamp")
         self.log = os.path.join(top, "target", f"build-{name}.log")
 
     def built(self):
@@ -43,6 +45,12 @@ class Program:
     def state(self):
         """What the stamp of the present sources and the present program says."""
         return f"sources {self.sum_of_sources()}\nprogram {_sum(self.binary)}\n"
+
+    def note(self):
+        """Writes the stamp of the present sources and the present program."""
+        with open(self.stamp + ".new", "w", encoding="ascii") as file:
+            file.write(self.state())
+        os.replace(self.stamp + ".new", self.stamp)
 
     def sum_of_sources(self):
         """A sum over the names and bytes of all sources."""
@@ -65,26 +73,40 @@ def _files(folder):
             yield os.path.join(place, name)
 
 
-def crates_below(top, name):
-    """A crate and the crates of the repository that it stands on, by crates.txt."""
+def stands_on(top):
+    """The crates of crates.txt, and for each what it stands on."""
     try:
         with open(os.path.join(top, "crates.txt"), encoding="utf-8") as file:
             lines = [line.split("#")[0].partition(":") for line in file]
     except OSError as error:
         raise Unusable(f"{top} is no repository of nolbreva: crates.txt: {reason(error)}") from error
-    stands_on = {crate.strip(): below.split() for crate, colon, below in lines if colon}
-    found, left = [], [name]
-    while left:
-        crate = left.pop()
-        if crate in stands_on and crate not in found:
+    return {crate.strip(): below.split() for crate, colon, below in lines if colon}
+
+
+def crates_below(top, name):
+    """A crate and the crates of the repository that it stands on, each after those that it stands on, as they are proved."""
+    below, found = stands_on(top), []
+
+    def add(crate):
+        if crate in below and crate not in found:
+            for one in below[crate]:
+                add(one)
             found.append(crate)
-            left += stands_on[crate]
-    return sorted(found)
+
+    add(name)
+    return found
+
+
+def proved_programs(top):
+    """All programs of the crates."""
+    return [proved_program(top, name) for name in stands_on(top) if os.path.isfile(os.path.join(top, "crates", name, "src", "main.rt"))]
 
 
 def proved_program(top, name):
-    """A program of the crates, proved and compiled by the kit."""
+    """A program of the crates, proved and compiled by the kit, in whose way it lies in its crate's folder `out`."""
     crates = crates_below(top, name)
+    if not crates:
+        raise Unusable(f"there is no program {name}: crates.txt does not name it")
 
     def sources():
         yield os.path.join(top, "crates.txt")
@@ -92,8 +114,8 @@ def proved_program(top, name):
             for part in ("src", "specs", "proofs"):
                 yield from _files(os.path.join(top, "crates", crate, part))
 
-    binary = ("target", "bin", name)
-    return Program(top, name, binary, sources, ["rt", "check", name], "the Rattle kit's command rt", crates)
+    binary = ("crates", name, "out", name)
+    return Program(top, name, binary, sources, ["rt", "run"], "the Rattle kit's command rt", crates)
 
 
 def independent_program(top):
@@ -139,7 +161,7 @@ def _lock(program):
 
 
 def _locked(name):
-    """Opens and locks a file. Where somebody removed it meanwhile, as `rt ci` does with all of target/, it is made again."""
+    """Opens and locks a file. Where somebody removed it meanwhile, it is made again."""
     told = False
     while True:
         lock = os.open(name, os.O_RDWR | os.O_CREAT, 0o666)
@@ -165,14 +187,14 @@ def _build(program, lock):
     sources = program.sum_of_sources()
     told = _Told(program)
     told.start()
-    # the kit runs programs as another user where it is root, who must be able to enter the folder
+    # a kit that runs programs as another user where it is root needs a folder that this one can enter
     with leftovers.folder(mode=0o755) as room, open(program.log, "wb") as file:
         environment = dict(os.environ, TMPDIR=room)
         # the process holds the lock too: should this one be killed, the next build waits for what is left of it
         with leftovers.started(
             program.words,
             leads=True,
-            cwd=program.top,
+            cwd=program.folder,
             env=environment,
             stdin=subprocess.DEVNULL,
             stdout=subprocess.PIPE,
@@ -184,13 +206,11 @@ def _build(program, lock):
                 file.flush()
                 told.line(line.decode(errors="replace").rstrip("\n"))
             status = process.wait()
-    if status != 0:
+    if not told.built(status):
         raise Unusable(f"{program.name} was not built{told.why()}; {log} has all that was said")
     if program.sum_of_sources() != sources:
         raise Unusable(f"the sources of {program.name} changed while it was built; start again")
-    with open(program.stamp + ".new", "w", encoding="ascii") as file:
-        file.write(program.state())
-    os.replace(program.stamp + ".new", program.stamp)
+    program.note()
 
 
 class _Told:
@@ -199,21 +219,33 @@ class _Told:
     def __init__(self, program):
         self.name = program.name
         self.crates = program.crates
-        self.proved = 0
+        self.crate = program.name
         self.last = ""
+        self.runs = False
 
     def start(self):
         proofs = f"; its {len(self.crates)} crates are proved first, which from nothing takes some minutes" if self.crates else ""
         tell(f"building {self.name}{proofs}")
 
     def line(self, line):
-        said = re.match(r"rt: (\w+) (proved|NOT PROVED)\b(.*)", line)
-        if said and said[1] in self.crates:
-            self.proved += 1
-            if "unchanged" not in said[3]:
-                tell(f"{self.proved} of {len(self.crates)}: {said[1]} {said[2]}{said[3]}")
-        if line.startswith(("rt: FAILED", "error")):
+        """Takes a line of the build. The kit names a crate before it says whether that is proved, and says nothing of one that has not changed."""
+        named = re.match(r"crate (\w+): ", line)
+        if named:
+            self.crate = named[1]
+        said = re.match(r"logic=(proved|not-proved) ", line)
+        if said and self.crate in self.crates:
+            well = "proved" if said[1] == "proved" else "NOT PROVED"
+            tell(f"{self.crates.index(self.crate) + 1} of {len(self.crates)}: {self.crate} {well}")
+        if said and said[1] != "proved":
+            self.last = f"{self.crate} is not proved"
+        if line.startswith(("rt: the library ", "error")):
             self.last = line
+        if line.startswith("rt: running "):
+            self.runs = True
+
+    def built(self, status):
+        """Whether the program is built: the kit runs it then, on no input, and the status is that of this run."""
+        return self.runs if self.crates else status == 0
 
     def why(self):
         return f" ({self.last})" if self.last else ""
@@ -227,7 +259,7 @@ def kit(purpose):
         raise Unusable(f"{purpose}, and the kit's command rt is not on the PATH") from error
     except (OSError, subprocess.CalledProcessError) as error:
         raise Unusable(f"{purpose}, and the kit's command rt does not work: {error}") from error
-    return os.path.dirname(os.path.dirname(told))
+    return os.path.dirname(told)
 
 
 def words_for(program, machine):

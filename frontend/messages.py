@@ -1,6 +1,7 @@
 """What the front end says, and the statuses that it ends with."""
 
 import os
+import re
 import signal
 import sys
 
@@ -84,6 +85,11 @@ def say(text):
 def reason(error):
     """What the system says of a failed call, without the call's own words."""
     return error.strerror or str(error)
+
+
+def without_number(line):
+    """A line that a program told, without the number at its end that the system has for a failed call: ` (os error 9)`."""
+    return re.sub(r" \(os error \d+\)\Z", "", line)
 
 
 def hold_standard_descriptors():

@@ -7,7 +7,7 @@ import signal
 import subprocess
 
 import leftovers
-from messages import Failed, Unusable, reason
+from messages import Failed, Unusable, reason, without_number
 
 # the most bytes that are taken from a program at once
 PIECE = 65536
@@ -53,7 +53,7 @@ def listen(process, hear, take, watch):
 
     def heard(piece):
         for line in lines.ended_by(piece):
-            told.append(line.decode(errors="replace"))
+            told.append(without_number(line.decode(errors="replace")))
             if hear:
                 hear(told[-1])
 

@@ -2,7 +2,7 @@
 
 import unittest
 
-from tests.repository import Repository
+from tests.repository import Repository, builds
 
 # Shows its words and its input, and tells what it finds in the file `told`; then it shows nothing.
 PROGRAM = """#!/bin/sh
@@ -10,9 +10,7 @@ if [ -f told ]; then cat told >&2; exit; fi
 echo "${0##*/} $*"
 cat
 """
-BUILDS = """mkdir -p target/bin
-for name in beesat_list beesat_set; do cp program target/bin/$name; chmod +x target/bin/$name; done
-"""
+BUILDS = builds("beesat_list", "beesat_set")
 INDEPENDENT = """#!/bin/sh
 case $1 in
     beesat-season) echo "$*" ;;

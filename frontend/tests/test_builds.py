@@ -7,7 +7,7 @@ import unittest
 
 import builds
 from messages import Unusable
-from tests.repository import BUILDS, LISTS, WAITS, Repository
+from tests.repository import BUILDS, LISTS, WAITS, Repository, makes, proves
 
 
 class Builds(Repository):
@@ -30,17 +30,32 @@ class Builds(Repository):
         self.assertEqual(self.builds(), 3)
 
     def test_a_failed_build_lists_nothing_however_often(self):
-        self.write("build", BUILDS + "echo 'rt: FAILED: list'; exit 1\n")
-        for calls in (1, 2):
-            status, out, told = self.run_it("list", given="a\n")
-            self.assertEqual((status, out, self.builds()), (2, "", calls))
-            self.assertIn("nolbreva: list was not built (rt: FAILED: list); target/build-list.log has all that was said\n", told)
+        unproved = proves("base", "not-proved"), "1 of 2: base NOT PROVED\n"
+        above = "rt: the library base did not build, so nothing above it was checked"
+        calls = 0
+        for said, first, why in (
+            (*unproved, "base is not proved"),
+            (f"{unproved[0]}echo '{above}'\n", unproved[1], above),
+            (proves("base") + proves("list", "not-proved"), "2 of 2: list NOT PROVED\n", "list is not proved"),
+        ):
+            self.write("build", f"{makes('list')}{said}exit 1\n")
+            for _ in (1, 2):
+                status, out, told = self.run_it("list", given="a\n")
+                calls += 1
+                self.assertEqual((status, out, self.builds()), (2, "", calls))
+                self.assertIn(f"nolbreva: {first}", told)
+                self.assertIn(f"nolbreva: list was not built ({why}); target/build-list.log has all that was said\n", told)
+
+    def test_the_status_of_the_run_that_ends_a_build_says_nothing_of_it(self):
+        self.write("build", BUILDS + "exit 3\n")
+        self.assertEqual(self.run_it("list", given="a\n")[:2], (0, "pass sheet\na\n"))
+        self.assertEqual(self.run_it("list", given="b\n"), (0, "pass sheet\nb\n", ""))
 
     def test_a_program_of_a_failed_build_is_not_that_of_the_old_sources(self):
         self.run_it("list")
         self.write("crates/base/src/lib.rt", "// wrong\n")
         self.write("program", "#!/bin/sh\necho wrong\n")
-        self.write("build", BUILDS + "exit 1\n")
+        self.write("build", makes("list") + "exit 1\n")
         self.assertEqual(self.run_it("list")[0], 2)
         self.write("crates/base/src/lib.rt", "// base\n")
         self.assertEqual(self.run_it("list")[0], 2)
@@ -50,7 +65,7 @@ class Builds(Repository):
 
     def test_a_program_that_somebody_else_put_there_is_built_again(self):
         self.run_it("list")
-        self.write("target/bin/list", "#!/bin/sh\necho other\n", 0o755)
+        self.write("crates/list/out/list", "#!/bin/sh\necho other\n", 0o755)
         self.assertEqual(self.run_it("list")[:2], (0, "pass sheet\n"))
         self.assertEqual(self.builds(), 2)
 
@@ -62,12 +77,12 @@ class Builds(Repository):
 
     def test_what_is_proved_is_told_line_by_line(self):
         self.write("crates.txt", "first:\nbase: first\nlist: base io\n")
-        said = "echo 'rt: first proved (unchanged since it was last proved)'; echo 'rt: base proved (1 s)'"
-        self.write("build", f"{said}; sleep 60\n{BUILDS}")
+        # of what has not changed, as `first` here, the kit says nothing
+        self.write("build", f"{proves('base')}sleep 60\n{BUILDS}")
         process = self.start("list", stdin=subprocess.DEVNULL, stdout=subprocess.DEVNULL, stderr=subprocess.PIPE)
         with process.stderr:
             self.assertEqual(process.stderr.readline(), "nolbreva: building list; its 3 crates are proved first, which from nothing takes some minutes\n")
-            self.assertEqual(process.stderr.readline(), "nolbreva: 2 of 3: base proved (1 s)\n")
+            self.assertEqual(process.stderr.readline(), "nolbreva: 2 of 3: base proved\n")
             process.terminate()
             process.wait()
 
@@ -98,7 +113,8 @@ class Builds(Repository):
     def test_standard_error_closed(self):
         # what is told goes nowhere, and into no file that was opened since
         self.assertEqual(self.run_it("list", given="a\n", first=["sh", "-c", 'exec "$@" 2>&-', "sh"]), (0, "pass sheet\na\n", ""))
-        for name, text in (("build.lock", ""), ("build-list.log", "rt: list proved (1 s)\n")):
+        said = "crate list: modules loaded=0 checked=1\nlogic=proved functions=1\nrt: running it; to give it other input, run that file yourself\n"
+        for name, text in (("build.lock", ""), ("build-list.log", said)):
             with open(os.path.join(self.top, "target", name), encoding="ascii") as file:
                 self.assertEqual(file.read(), text)
 
@@ -166,11 +182,11 @@ class Words(unittest.TestCase):
         before = os.environ["PATH"]
         self.addCleanup(os.environ.__setitem__, "PATH", before)
         os.environ["PATH"] = path
-        program = builds.Program("/top", "list", ("target", "bin", "list"), None, ["rt"], "rt")
+        program = builds.Program("/top", "list", ("crates", "list", "out", "list"), None, ["rt"], "rt")
         return builds.words_for(program, machine)
 
     def test_on_its_own_processor_by_itself(self):
-        self.assertEqual(self.words("x86_64", "/none"), ["/top/target/bin/list"])
+        self.assertEqual(self.words("x86_64", "/none"), ["/top/crates/list/out/list"])
 
     def test_elsewhere_without_the_kit(self):
         with self.assertRaises(Unusable) as told:

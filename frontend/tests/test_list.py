@@ -87,6 +87,15 @@ class Lists(Repository):
         self.write("told", "write: No space left on device\n")
         self.assertEqual(self.listed("one", "two"), (1, "sheet \n1\n", "nolbreva: write: No space left on device\n"))
 
+    def test_the_number_of_an_error_of_the_system_is_not_shown(self):
+        self.write("told", "read: Input/output error (os error 5)\n")
+        self.assertEqual(self.listed("one"), (1, "sheet \n1\n", "nolbreva: one: read: Input/output error\n"))
+        self.write("told", "write: No space left on device (os error 28)\n")
+        self.assertEqual(self.listed("one"), (1, "sheet \n1\n", "nolbreva: write: No space left on device\n"))
+        for told in ("read: (os error 5) or not", "read: an os error 5", "read: Success (os error )", "(os error 5)"):
+            self.write("told", f"{told}\n")
+            self.assertEqual(self.listed("one")[2], f"nolbreva: one: {told}\n")
+
     def test_a_program_that_cannot_run(self):
         self.write("crates/list/src/main.rt", "// changed\n")
         self.write("program", "#!/bin/sh\necho no such library >&2\nexit 127\n")

@@ -3,7 +3,7 @@
 import os
 import unittest
 
-from tests.repository import Repository
+from tests.repository import Repository, builds
 
 # Shows its name and its input, and tells what it finds in the file `told`.
 PROGRAM = """#!/bin/sh
@@ -16,9 +16,7 @@ COPIES = """#!/bin/sh
 cat
 if [ -f "more-${0##*/}" ]; then echo more; fi
 """
-BUILDS = """mkdir -p target/bin
-for name in unpack pack; do cp program target/bin/$name; chmod +x target/bin/$name; done
-"""
+BUILDS = builds("unpack", "pack")
 INDEPENDENT = """#!/bin/sh
 case $1 in
     season) echo "$*" ;;

@@ -16,7 +16,7 @@ from unittest import mock
 import replay
 import report
 from messages import Unusable
-from tests.repository import TOP, Repository
+from tests.repository import TOP, Repository, builds
 
 # Notes its words. A report is its title and what the files hold; or it tells what it finds in the file `told`, after the title.
 PROGRAM = """#!/bin/sh
@@ -24,7 +24,7 @@ echo "$# $*" >words
 echo pass report
 if [ -f told ]; then cat told >&2; else cat -- "$@"; fi
 """
-BUILDS = "mkdir -p target/bin; cp program target/bin/report_list; chmod +x target/bin/report_list\n"
+BUILDS = builds("report_list")
 INDEPENDENT = """#!/bin/sh
 case $1 in
     season) echo "$*" ;;

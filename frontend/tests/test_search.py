@@ -2,7 +2,7 @@
 
 import unittest
 
-from tests.repository import Repository
+from tests.repository import Repository, builds
 
 # Shows its words and its input, and tells what it finds in the file `told`; then it shows nothing.
 PROGRAM = """#!/bin/sh
@@ -10,7 +10,7 @@ if [ -f told ]; then cat told >&2; exit; fi
 echo "${0##*/} $*"
 cat
 """
-BUILDS = "mkdir -p target/bin; cp program target/bin/night; chmod +x target/bin/night\n"
+BUILDS = builds("night")
 INDEPENDENT = """#!/bin/sh
 case $1 in
     recording) echo "$*" ;;

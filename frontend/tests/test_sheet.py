@@ -2,7 +2,7 @@
 
 import unittest
 
-from tests.repository import Repository
+from tests.repository import Repository, builds
 
 # Shows its words, its input and the file `expected`, if there is one; or tells what it finds in the file `told`, and shows nothing.
 PROGRAM = """#!/bin/sh
@@ -11,7 +11,7 @@ echo "${0##*/} $*"
 cat
 if [ -f expected ]; then cat expected; fi
 """
-BUILDS = "mkdir -p target/bin; cp program target/bin/sheet_list; chmod +x target/bin/sheet_list\n"
+BUILDS = builds("sheet_list")
 INDEPENDENT = """#!/bin/sh
 case $1 in
     season) echo "$*" ;;

@@ -51,7 +51,7 @@ class Signals(Repository):
         for number in leftovers.SIGNALS:
             with self.subTest(number):
                 self.assertEqual(len(self.end_by(number, "list")), 1)
-                self.assertFalse(os.path.exists(os.path.join(self.top, "target", "bin", "list.stamp")))
+                self.assertFalse(os.path.exists(os.path.join(self.top, "target", "list.stamp")))
 
     def test_during_a_listing(self):
         self.write("program", f"#!/bin/sh\n{STAYS}\ncat\n")

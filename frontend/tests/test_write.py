@@ -3,7 +3,7 @@
 import unittest
 
 import writing
-from tests.repository import Repository
+from tests.repository import Repository, builds
 
 # Shows its words and its input, and tells what it finds in the file `told`; then it shows nothing.
 PROGRAM = """#!/bin/sh
@@ -11,7 +11,7 @@ if [ -f told ]; then cat told >&2; exit; fi
 echo "${0##*/} $*"
 cat
 """
-BUILDS = "mkdir -p target/bin; cp program target/bin/write; chmod +x target/bin/write\n"
+BUILDS = builds("write")
 REFUSALS = """| number | when | place | places | says |
 |---|---|---|---|---|
 | 14 | a field out of range | lowest such field | 0 to 13 | field P is out of range |

@@ -1,4 +1,6 @@
 // A header on air: 210 bits to fourteen words and back, and the repair of the fourteen.
+#![tactic(auto)]
+
 ghost use Rattle.std.specs.Prelude.{◌≡◌, ℕ, ◌+◌, ◌*◌, ◌/◌, ◌%◌, ◌^◌, ◌<◌, ◌≤◌, length, get_or, drop};
 ghost use mathlib.Core.List.{◌++◌, foldl};
 ghost use Rattle.std.specs.Int.Bits.{bit_or};
@@ -33,7 +35,7 @@ pub const MOST_FLIPS: u32 = word::RADIUS * WORD_COUNT as u32;
 pub const LONGEST_PAYLOAD: usize = 1023;
 
 // Fourteen repaired words and the flip pattern of each; or the lowest word beyond repair, and then all else is 0.
-#[derive(Drop)]
+#[derive(Clone, Copy)]
 pub struct RepairedWords {
     pub words: [u16; WORD_COUNT],
     pub patterns: [u16; WORD_COUNT],

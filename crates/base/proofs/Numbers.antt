@@ -4,7 +4,7 @@ use mathlib.Core.Path.{◌≡◌, refl, sym, ap, subst, ◌∙◌}
 use mathlib.Core.Bool.{Bool, true, false, cond, true≢false}
 use mathlib.Core.Logic.{⊎_elim}
 use mathlib.Core.List.{List, [], ◌∷◌, map}
-use Prim.Native.Nat.{ℕ, zero, suc, ◌≤◌, ◌<◌}
+use Prim.Native.Nat.{ℕ, suc, ◌≤◌, ◌<◌}
 use native.Mathlib.Nat.{zero-lt-suc}
 use native.Mathlib.Omega.{arith}
 use lib.Dec.{eqb, ltb}
@@ -29,6 +29,7 @@ pub record Stands (n : ℕ) (l : List ℕ) : Type 0 where
 stands : (n : ℕ) (l : List ℕ) → Among n l → Stands n l
 stands n (m ∷ l) front = record { place = 0; inside = zero-lt-suc (length l); is = refl }
 stands n (m ∷ l) (behind so) = let s = stands n l so in record { place = suc s.place; inside = omega (arith, s.inside); is = s.is }
+stands n [] x' = elim x' [ ]
 
 -- it has a place there,
 pub place_lt : (l : List ℕ) (n : ℕ) → Among n l → place_in l n < length l
@@ -58,6 +59,7 @@ both false b h = absurd (true≢false (sym h))
 pub placed : (l ns : List ℕ) (n : ℕ) → all_placed l ns ≡ true → Among n ns → place_in l n < length l
 placed l (m ∷ ns) n all front = ltb-true (place_in l n) (length l) (both (ltb (place_in l n) (length l)) (all_placed l ns) all).0
 placed l (m ∷ ns) n all (behind so) = placed l ns n (both (ltb (place_in l m) (length l)) (all_placed l ns) all).1 so
+placed l [] n all x'' = elim x'' [ ]
 
 -- the numbers of a table's rows, in its order
 module _ {A : Type 0} (number : A → ℕ) where

@@ -1,22 +1,23 @@
 // The one refusal of every layer and its numbers, the edition, and a writer's answer. What else stands here are definitions (specs/) and laws (proofs/) that several crates
 // cite.
+#![tactic(auto)]
 
 // "A refusal carries number and place only": the number is one of those below, the place what the paper's table names beside it.
-#[derive(Drop)]
+#[derive(Clone, Copy)]
 pub struct Refusal {
     pub number: u8,
     pub place: usize,
 }
 
 // The edition of the rules: as the S-NET satellites fly them, or with CRC5 corrected.
-#[derive(Drop)]
+#[derive(Clone, Copy)]
 pub enum Edition {
     Flown,
     Corrected,
 }
 
 // The answer of a writer.
-#[derive(Drop)]
+#[derive(Clone, Copy)]
 pub enum Written {
     Done,
     Refused(Refusal),

@@ -2,19 +2,18 @@
 -- Assumes nothing.
 use mathlib.Core.Path.{◌≡◌, refl, sym, ap, ◌∙◌}
 use mathlib.Core.List.{List, flat_map}
-use Prim.Native.Nat.{ℕ, ◌+◌, ◌-◌, ◌*◌, ◌^◌, ◌≤◌, ◌<◌}
+use Prim.Native.Nat.{ℕ, ◌+◌, ◌*◌, ◌^◌, ◌≤◌, ◌<◌}
 use native.Mathlib.Omega.{arith}
 use lib.ListN.{length, get_or, take, drop, length-take, length-drop}
 use lib.Seq.{ext_get_or, get_or-take, get_or-drop}
 use Rattle.crc.specs.Crc.{crc16_of}
 use Rattle.crc.proofs.Width.{crc16_lt}
 use Rattle.layout.specs.Bits.{byte_bits, bit_at, AreBytes}
-use Rattle.layout.specs.Rows.{rows_in, row_in, number_of, put_of, Outside}
-use Rattle.layout.specs.Sound.{Sound}
+use Rattle.layout.specs.Rows.{row_in, Outside}
 use Rattle.layout.proofs.Values.{before_outside, put_length, put_bytes, put_outside, put_byte}
 use Rattle.layout.proofs.Tables.{reads_back, others_stay, same_put}
 use Rattle.beesat.specs.Tables.{frame_bytes, rows, error_at}
-use Rattle.beesat.specs.Reading.{field_in, summed_from, summed_to, error_of}
+use Rattle.beesat.specs.Reading.{field_in, summed_to, error_of}
 use Rattle.beesat.specs.Writing.{with_row, renewed}
 use Rattle.beesat.specs.Inside.{width_of}
 use Rattle.beesat.proofs.Soundness.{frame_sound, row_within, error_width}

@@ -2,32 +2,30 @@
 -- same write again changes no byte.
 -- Assumes nothing.
 use mathlib.Core.Path.{◌≡◌, refl, sym, ap, ◌∙◌}
-use mathlib.Core.Bool.{Bool, true, false, cond}
+use mathlib.Core.Bool.{true, false, cond}
 use mathlib.Core.Logic.{⊎_elim}
 use mathlib.Core.List.{List}
-use Prim.Native.Nat.{ℕ, ◌+◌, ◌^◌, ◌≤◌, ◌<◌}
+use Prim.Native.Nat.{ℕ, ◌+◌, ◌≤◌, ◌<◌}
 use native.Mathlib.Omega.{arith}
 use lib.Dec.{eqb}
-use lib.ListN.{length, get_or}
-use borrow.Author.Tests.{eqb-true, eqb-false, eq-eqb, ne_eqb}
+use lib.ListN.{length}
+use borrow.Author.Tests.{eq-eqb, ne_eqb}
 use Rattle.base.specs.Checks.{refusal}
-use Rattle.base.specs.declared.Refusal.{Refusal}
-use Rattle.base.specs.declared.Written.{Written}
-use Rattle.base.specs.declared.Written.TheVariants.{Done, Refused}
+use Rattle.base.specs.declared.Written.TheVariants.{Refused}
 use Rattle.base.proofs.Tests.{same_or_not}
 use Rattle.layout.specs.Bits.{bit_at, AreBytes}
 use Rattle.layout.specs.Rows.{row_in, HasValues, Outside}
 use Rattle.layout.proofs.Values.{put_bytes, put_outside}
 use Rattle.beesat.specs.Tables.{frame_bytes, rows, field_count, fixed_from, fixed_values, marker_from, marker_values, error_at}
-use Rattle.beesat.specs.Reading.{field_in, error_of, apid_field, idle_apid, is_idle, header_in, no_data, shown_field, read_of}
+use Rattle.beesat.specs.Reading.{field_in, apid_field, idle_apid, is_idle, header_in, shown_field, read_of}
 use Rattle.beesat.specs.Accepting.{Accepts}
-use Rattle.beesat.specs.Writing.{with_row, renewed, write_field_of, after_field, FieldWritten}
-use Rattle.beesat.specs.Inside.{width_of, good_read}
+use Rattle.beesat.specs.Writing.{with_row, renewed, write_field_of}
+use Rattle.beesat.specs.Inside.{good_read}
 use Rattle.beesat.specs.declared.Answer.TheVariants.{Idle}
 use Rattle.beesat.specs.declared.reading.Verdict.TheVariants.{Good}
 use Rattle.beesat.proofs.Passed.{Passed, passed_good}
 use Rattle.beesat.proofs.WriteChecks.{gives_38_idle}
-use Rattle.beesat.proofs.Writable.{Writable, writable, writes}
+use Rattle.beesat.proofs.Writable.{Writable}
 use Rattle.beesat.proofs.Accepted.{passed_accepts, accepts_passed, good_read_lem}
 use Rattle.beesat.proofs.Renewed.{with_long, with_back, with_other, with_same, renewed_long, renewed_bytes, renewed_summed, renewed_other, renewed_outside, renewed_same}
 use Rattle.beesat.proofs.Fields.{data_count, packet_shows, idle_shows, idle_hides}

@@ -2,25 +2,23 @@
 -- Assumes nothing.
 use mathlib.Core.Path.{◌≡◌, refl, sym, ap, ◌∙◌}
 use mathlib.Core.Bool.{Bool, true, false, ◌||◌}
-use mathlib.Core.List.{List, [], ◌∷◌, ◌++◌}
-use Prim.Native.Nat.{ℕ, ◌^◌, ◌≤◌, ◌<◌}
-use native.Mathlib.Omega.{arith}
+use mathlib.Core.List.{List, [], ◌∷◌}
+use Prim.Native.Nat.{ℕ, ◌^◌, ◌<◌}
 use lib.Dec.{leb}
 use lib.ListN.{length}
 use borrow.Author.Tests.{leb-false, lt-leb}
-use Rattle.base.specs.Checks.{first}
 use Rattle.base.specs.declared.Refusal.{Refusal}
 use Rattle.base.specs.declared.Written.{Written}
 use Rattle.base.specs.declared.Written.TheVariants.{Done, Refused}
 use Rattle.base.proofs.Exactly.{not_done}
-use Rattle.base.proofs.First.{NoneApplies, none_split, none_both, first_none, first_passes}
+use Rattle.base.proofs.First.{none_split, none_both, first_none, first_passes}
 use Rattle.layout.specs.Rows.{row_in, rows_in, put_of}
 use Rattle.layout.specs.Sound.{Sound}
 use Rattle.layout.proofs.Values.{put_length}
 use Rattle.crc.proofs.Width.{crc16_lt}
 use Rattle.beesat.specs.Tables.{frame_bytes, rows, field_count, error_at}
 use Rattle.beesat.specs.Reading.{error_of, is_idle, frame_checks}
-use Rattle.beesat.specs.Writing.{no_field, too_large, write_checks, write_field_of, with_row, renewed, after_field, FieldWritten}
+use Rattle.beesat.specs.Writing.{no_field, too_large, write_checks, write_field_of, with_row, renewed, FieldWritten}
 use Rattle.beesat.specs.Inside.{MayPut, width_of}
 use Rattle.beesat.proofs.Soundness.{rows_sound, row_copied, field_wide, error_wide, error_width}
 use Rattle.beesat.proofs.Passed.{Passed, passed, passes}

@@ -1,4 +1,6 @@
 // The frames of BEESAT-1: read, and one field of a frame written. Every place is a row of one table (src/tables.rt).
+#![tactic(auto)]
+
 mod reading;
 mod tables;
 mod writing;
@@ -17,7 +19,7 @@ pub const VALUES: usize = 16;
 pub const STATES: usize = 64;
 
 // The values of the transfer frame header and of the packet header that are free.
-#[derive(Drop)]
+#[derive(Clone, Copy)]
 pub struct Header {
     pub vcid: u8,
     pub mcfc: u8,
@@ -27,7 +29,7 @@ pub struct Header {
     pub psc: u16,
 }
 
-#[derive(Drop)]
+#[derive(Clone, Copy)]
 pub enum Answer {
     Telemetry(Header),
     Idle(Header),
@@ -36,7 +38,7 @@ pub enum Answer {
 
 // The values and the state bits stand beside the answer; state bits 4i to 4i + 3 are those of value i, as they stand. Beside an idle frame, whose
 // data isn't read, and beside a refusal all of them are 0.
-#[derive(Drop)]
+#[derive(Clone, Copy)]
 pub struct Read {
     pub answer: Answer,
     pub values: [u16; VALUES],

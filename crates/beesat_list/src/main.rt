@@ -1,4 +1,6 @@
 // Lists the frames of BEESAT-1 on standard input, after each read. It moves bytes and does nothing else: the text is that of `beesat_listing`.
+#![tactic(auto)]
+
 ghost use Rattle.std.specs.Prelude.{◌≡◌, ◌*◌, ◌≤◌, length};
 ghost use Rattle.beesat_list.specs.Sizes.{buffer_bytes};
 
@@ -7,17 +9,19 @@ use streams::{is_done, read_on, send, turns_left, write};
 // A line may be longer than its frame, so what is read at once is an eighth of what is written.
 const BUFFER_BYTES: usize = 8192;
 
+const OUTPUT_BYTES: usize = 65536;
+
 // No run has as many turns: each but the last reads a byte. And the frames of so many turns can be counted.
 const MOST_TURNS: u64 = 0x2_0000_0000_0000;
 
 // Lists the input, read by read. Where a read or a write fails, the lines up to there are written, and no last line.
-fn list(buf: &mut [u8], out: &mut [u8])
+fn list(rt: HostRuntime, buf: &mut [u8], out: &mut [u8])
     requires buf_len { length buf.old ≡ buffer_bytes }
     requires buffer_bytes_in_bounds { 8 * buffer_bytes ≤ length out.old }
 {
     let opened = beesat_listing::open(out);
     let title = opened.to;
-    if !write(&out[..title]) {
+    if !write(rt, &out[..title]) {
         return;
     }
     let mut counts = opened.counts;
@@ -25,24 +29,24 @@ fn list(buf: &mut [u8], out: &mut [u8])
     let mut ended = false;
     let mut turns = MOST_TURNS;
     while turns > 0 {
-        let filled = read_on(buf, kept);
+        let filled = read_on(rt, buf, kept);
         let end = filled.end;
         let listed = beesat_listing::list_piece(counts, buf, end, out);
         counts = listed.counts;
         kept = listed.left;
         let read = filled.next;
-        let next = send(out, listed.to, read, false);
+        let next = send(rt, out, listed.to, read, false);
         ended = is_done(next);
         turns = turns_left(turns, next);
     }
     if ended {
         let n = beesat_listing::close(counts, kept, out);
-        write(&out[..n]);
+        write(rt, &out[..n]);
     }
 }
 
-fn main() {
+fn main(rt: HostRuntime) {
     let mut buf = [0u8; BUFFER_BYTES];
-    let mut out = io::large_buffer();
-    list(&mut buf, &mut out);
+    let mut out = [0u8; OUTPUT_BYTES];
+    list(rt, &mut buf, &mut out);
 }

@@ -1,4 +1,6 @@
 // The listing of frames of BEESAT-1: its first line, a line for each of the whole frames of a piece, and its last lines.
+#![tactic(auto)]
+
 mod frame_lines;
 
 ghost use Rattle.std.specs.Prelude.{◌+◌, ◌*◌, ◌<◌, ◌≤◌, ◌^◌, length};
@@ -15,7 +17,7 @@ pub use frame_lines::put_refusal;
 use frame_lines::{counted, heard, put_closing, put_line, put_title};
 
 // How many frames of each kind there were.
-#[derive(Drop)]
+#[derive(Clone, Copy)]
 pub struct Counts {
     pub telemetry: u64,
     pub idle: u64,
@@ -23,21 +25,21 @@ pub struct Counts {
 }
 
 // A listing was opened: the counts of no frame, and the place after the first line.
-#[derive(Drop)]
+#[derive(Clone, Copy)]
 pub struct Opened {
     pub counts: Counts,
     pub to: usize,
 }
 
 // A frame was taken: the counts after it, and the place after its line.
-#[derive(Drop)]
+#[derive(Clone, Copy)]
 pub struct Taken {
     pub counts: Counts,
     pub to: usize,
 }
 
 // Some bytes were listed: the counts after their frames, how many bytes are left, and the place after the lines.
-#[derive(Drop)]
+#[derive(Clone, Copy)]
 pub struct Listed {
     pub counts: Counts,
     pub left: usize,

@@ -1,74 +1,85 @@
 // Writes one field of the frame of BEESAT-1 on standard input: started with the words FIELD and VALUE, it writes the changed frame to standard output, or tells
 // the refusal on standard error. It moves bytes and does nothing else: the frame is that of `beesat`, the text that of `beesat_listing`.
+#![tactic(auto)]
+
 ghost use Rattle.std.specs.Prelude.{◌<◌, length};
 
 use base::{NOT_144_BYTES, Refusal, Written};
-use libc::STDERR_FILENO;
 use options::{Parsed, number};
+use std::io::Print;
 use streams::{Next, count_on, fill, write};
 
-// Tells a refusal.
-fn tell(why: Refusal) {
+// More than a frame.
+const BUFFER_BYTES: usize = 4096;
+
+// Tells a refusal. Where that fails, nobody is left to be told.
+fn tell(rt: HostRuntime, why: Refusal) {
     let mut out = [0u8; 64];
     let n = beesat_listing::put_refusal(&mut out, 0, why);
-    io::write_all(STDERR_FILENO, &out[..n]);
+    match Print::write_all(&rt.stderr(), &out[..n]) {
+        Ok(()) => {}
+        Err(_) => {}
+    }
 }
 
 // Writes one field of a frame of any length.
-fn set(frame: &mut [u8], field: u32, value: u32) {
+fn set(rt: HostRuntime, frame: &mut [u8], field: u32, value: u32) {
     match beesat::write_field(frame, field, value) {
         Written::Done => {
-            write(frame);
+            write(rt, frame);
         }
         Written::Refused(why) => {
-            tell(why);
+            tell(rt, why);
         }
     }
 }
 
 // The whole input is longer than the buffer, which is longer than a frame.
-fn refuse_long(buf: &mut [u8])
+fn refuse_long(rt: HostRuntime, buf: &mut [u8])
     requires { 0 < length buf.old }
 {
-    let counted = count_on(buf);
+    let counted = count_on(rt, buf);
     let next = counted.next;
     match next {
         Next::More => {}
         Next::Done => {
-            tell(Refusal {
-                number: NOT_144_BYTES,
-                place: counted.size,
-            });
+            tell(
+                rt,
+                Refusal {
+                    number: NOT_144_BYTES,
+                    place: counted.size,
+                },
+            );
         }
         Next::Failed => {}
     }
 }
 
 // Writes one field of the frame that the whole input is.
-fn set_input(field: u32, value: u32) {
-    let mut buf = io::buffer();
-    let filled = fill(&mut buf);
+fn set_input(rt: HostRuntime, field: u32, value: u32) {
+    let mut buf = [0u8; BUFFER_BYTES];
+    let filled = fill(rt, &mut buf);
     let next = filled.next;
     match next {
         Next::More => {
-            refuse_long(&mut buf);
+            refuse_long(rt, &mut buf);
         }
         Next::Done => {
             let end = filled.end;
-            set(&mut buf[..end], field, value);
+            set(rt, &mut buf[..end], field, value);
         }
         Next::Failed => {}
     }
 }
 
-fn main() {
-    let Parsed::Number(field) = number(1) else {
-        io::write_all(STDERR_FILENO, b"usage: beesat_set FIELD VALUE\n");
+fn main(rt: HostRuntime) {
+    let Parsed::Number(field) = number(rt, 1) else {
+        streams::say(rt, "usage: beesat_set FIELD VALUE");
         return;
     };
-    let Parsed::Number(value) = number(2) else {
-        io::write_all(STDERR_FILENO, b"usage: beesat_set FIELD VALUE\n");
+    let Parsed::Number(value) = number(rt, 2) else {
+        streams::say(rt, "usage: beesat_set FIELD VALUE");
         return;
     };
-    set_input(field, value);
+    set_input(rt, field, value);
 }

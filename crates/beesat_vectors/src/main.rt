@@ -1,5 +1,8 @@
 // What the library answers to the stored vectors about BEESAT-1, as `vectors` does to the others.
+#![tactic(auto)]
+
 ghost use Rattle.std.specs.Prelude.{◌+◌, ◌≤◌, ◌<◌, length};
+ghost use Rattle.marshalling.specs.declared.format.TheConstants.{FRAME_AFTER};
 
 use base::Written;
 use beesat::{Answer, Header, STATES, VALUES};
@@ -61,7 +64,7 @@ fn read_reply(record: &Record, reply: &mut Reply) {
 
 // A field of the frame in a reply written.
 fn write_in(record: &Record, reply: &mut [u8], size: usize) -> Written
-    requires* { do ⌜ (← ⟦format::FRAME_AFTER⟧) + size ≤ length reply.old ⌝ }
+    requires { FRAME_AFTER + size ≤ length reply.old }
 {
     let frame = &mut reply[format::FRAME_AFTER..format::FRAME_AFTER + size];
     let field = numbers::four_at(record, format::FIELD) as u32;
@@ -83,9 +86,9 @@ fn write_reply(record: &Record, reply: &mut Reply) {
 }
 
 // Answers the next record, and says whether there was one.
-fn answer_next() -> bool {
+fn answer_next(rt: HostRuntime) -> bool {
     let mut record = [0u8; format::RECORD_BYTES];
-    let kind = marshalling::read_record(&mut record);
+    let kind = marshalling::read_record(rt, &mut record);
     let mut reply = [0u8; format::REPLY_BYTES];
     match kind {
         format::BEESAT => read_reply(&record, &mut reply),
@@ -94,13 +97,13 @@ fn answer_next() -> bool {
             return false;
         }
     }
-    marshalling::write_reply(kind, &reply)
+    marshalling::write_reply(rt, kind, &reply)
 }
 
 // The records are counted down from a number that no run uses up.
-fn main() {
+fn main(rt: HostRuntime) {
     let mut records = u64::MAX;
-    while records > 0 && answer_next() {
+    while records > 0 && answer_next(rt) {
         records -= 1;
     }
 }

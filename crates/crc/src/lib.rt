@@ -1,4 +1,6 @@
 // Checksums, byte by byte: CRC13 of a payload, the 16-bit checksum of CCSDS, and CRC5 of a header.
+#![tactic(auto)]
+
 ghost use Rattle.std.specs.Prelude.{◌≡◌, ◌++◌, reverse, ◌+◌, ◌*◌, ◌≤◌, ◌<◌, ◌^◌, length};
 ghost use Rattle.crc.specs.Crc.{crc_of, byte_bits, bits_of, bits_of_bytes, poly13, start13, crc13_of, poly16, crc16_of};
 ghost use Rattle.crc.specs.Around.{around_bytes, added_at};

@@ -1,5 +1,7 @@
 // A test program: the marks of a short recording on standard input, found whole, cut in two at every place, and bit by bit; and how many of
 // their headers are accepted, alone and with the call sign of each satellite.
+#![tactic(auto)]
+
 ghost use Rattle.std.specs.Prelude.{◌≡◌};
 ghost use Rattle.marks.specs.Pieces.{step_of, taken_of};
 

@@ -7,13 +7,12 @@ use mathlib.Core.List.{List, flat_map}
 use Prim.Native.Nat.{ℕ, ◌+◌, ◌-◌, ◌*◌, ◌/◌, ◌%◌, ◌^◌, ◌≤◌, ◌<◌}
 use native.Mathlib.Omega.{arith}
 use lib.Dec.{T, eqb, eqb→eq}
-use lib.ListN.{length, get_or}
+use lib.ListN.{get_or}
 use Rattle.base.proofs.Bits.{bit_below, shift_above}
 use Rattle.base.proofs.Tests.{lt_or_ge}
 use Rattle.layout.specs.Bits.{AreBytes, bit_of, bit_at}
 use Rattle.layout.specs.Rows.{row_in, place_of, number_of}
 use Rattle.layout.specs.Sound.{every, sound_row, apart, sound_table, Sound}
-use Rattle.layout.specs.declared.Row.{Row}
 use Rattle.layout.proofs.Bits.{bit_in_byte}
 use Rattle.layout.proofs.Soundness.{and_left, and_right, every_at}
 use Rattle.layout.proofs.Values.{number_is}
@@ -37,6 +36,7 @@ all_power = tt
 
 is_true : (b : Bool) → T b → b ≡ true
 is_true true h = refl
+is_true mathlib.Core.Bool.false h = elim h [ ]
 
 record Power (r : ℕ) : Type 0 where
   start_is : (row_in power_rows r).start ≡ 16 * r

@@ -1,4 +1,6 @@
 // A frame: header and payload together.
+#![tactic(auto)]
+
 ghost use Rattle.std.specs.Prelude.{◌≡◌, ◌≤◌, length};
 ghost use Rattle.base.specs.Checks.{first};
 ghost use Rattle.word.specs.Repairs.{syndromes};

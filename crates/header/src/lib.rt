@@ -1,4 +1,6 @@
 // The header: its fields, how it is read, and what is answered. The reader is `header_reader`, the writer `header_writer`.
+#![tactic(auto)]
+
 mod bits;
 
 ghost use Rattle.std.specs.Prelude.{◌≡◌, ◌+◌};
@@ -21,7 +23,7 @@ pub const LAST_CODING: u8 = 3;
 pub const FIELD_COUNT: usize = 14;
 
 // Fields 0 to 13, by the paper's names: those that a writer is handed.
-#[derive(Drop)]
+#[derive(Clone, Copy)]
 pub struct Fields {
     pub src_id: u8,
     pub dst_id: u8,
@@ -40,7 +42,7 @@ pub struct Fields {
 }
 
 // All 17 fields.
-#[derive(Drop)]
+#[derive(Clone, Copy)]
 pub struct Header {
     pub fields: Fields,
     pub pdu_length: u16,
@@ -52,7 +54,7 @@ pub struct Header {
 const USUAL_LIMIT: u32 = 28;
 
 // How a header is read: the edition, and the most flips that are taken, 0 to 42.
-#[derive(Drop)]
+#[derive(Clone, Copy)]
 pub struct Rules {
     pub edition: Edition,
     pub limit: u32,
@@ -79,7 +81,7 @@ pub fn last_source(edition: Edition) -> u8
 }
 
 // The repaired header and the number of flips, or the refusal: what is answered of a header alone, and of a whole frame.
-#[derive(Drop)]
+#[derive(Clone, Copy)]
 pub enum Answer {
     Accepted { header: Header, flips: u32 },
     Refused(Refusal),
@@ -87,7 +89,7 @@ pub enum Answer {
 
 // An answer, and beside it the flip pattern of each word: bit i of pattern j is set where position i of word j was flipped. The
 // accepted answer's flips are the patterns' ones; beside a refusal all fourteen are 0.
-#[derive(Drop)]
+#[derive(Clone, Copy)]
 pub struct Read {
     pub answer: Answer,
     pub patterns: [u16; WORD_COUNT],

@@ -1,5 +1,7 @@
 // The reader of a header alone (refusals 20, 1, 2, 23, 3, 21, 4, 5, 24, 6): the words' data make 70 bits, the bits make fields, and the
 // fields are judged.
+#![tactic(auto)]
+
 ghost use Rattle.std.specs.Prelude.{◌≡◌, ℕ, ◌<◌, ◌≤◌, ◌^◌, length, get_or, replicate};
 ghost use Rattle.base.specs.Checks.{refusal};
 ghost use Rattle.word.specs.Words.{word_limit};

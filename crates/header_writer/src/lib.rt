@@ -1,4 +1,6 @@
 // The header writer: the fields make 70 bits, the bits make fourteen words, and the words are sent.
+#![tactic(auto)]
+
 ghost use Rattle.std.specs.Prelude.{◌≡◌, [], ◌∷◌, ◌++◌, ◌+◌, ◌*◌, ◌<◌, ◌≤◌, ◌^◌, length, take, drop};
 ghost use Rattle.base.specs.Parts.{joined};
 ghost use Rattle.air.specs.Air.{word_count, air_bits, payload_limit};

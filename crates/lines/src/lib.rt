@@ -1,4 +1,6 @@
 // The text of every line, put into a lent slice at a place. Each function answers the place after what it put.
+#![tactic(auto)]
+
 ghost use Rattle.std.specs.Prelude.{◌≡◌, ◌++◌, ◌+◌, ◌*◌, ◌<◌, ◌≤◌, length};
 ghost use Rattle.text.specs.Text.{decimal_of, most_digits, Put};
 ghost use Rattle.lines.specs.Tallies.{most_counted, total_of, tally_after};
@@ -9,14 +11,14 @@ use base::{Edition, Refusal};
 use header::{Answer, Read};
 
 // How many records were accepted so far, and how many refused.
-#[derive(Drop)]
+#[derive(Clone, Copy)]
 pub struct Tally {
     pub accepted: u32,
     pub refused: u32,
 }
 
 // Why a search stopped before the end of its input, if it did.
-#[derive(Drop)]
+#[derive(Clone, Copy)]
 pub enum Stop {
     Nowhere,
     Stopped(Refusal),

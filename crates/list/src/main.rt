@@ -1,5 +1,7 @@
 // Lists the records on standard input, after each read. It moves bytes and does nothing else: the text is `listing`'s. The words after
 // its name are those of `options`: `--strict` tells on standard error where and why a listing was cut.
+#![tactic(auto)]
+
 ghost use Rattle.std.specs.Prelude.{◌≡◌, ◌*◌, ◌≤◌, length};
 ghost use Rattle.word.specs.Repairs.{syndromes};
 ghost use Rattle.air.specs.Air.{payload_limit};

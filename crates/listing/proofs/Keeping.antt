@@ -4,7 +4,6 @@ use mathlib.Core.Path.{◌≡◌}
 use mathlib.Core.Bool.{false}
 use mathlib.Core.List.{List}
 use Prim.Native.Nat.{ℕ, ◌<◌}
-use lib.ListN.{take}
 use Rattle.air.specs.Air.{payload_limit}
 use Rattle.header.specs.declared.Rules.{Rules}
 use Rattle.lines.specs.declared.Tally.{Tally}

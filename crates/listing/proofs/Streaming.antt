@@ -8,7 +8,7 @@ use Rattle.walk.specs.Walks.{Closed, closed_by}
 use Rattle.walk.proofs.Walking.{Sound}
 use Rattle.walk.proofs.Feeding.{fed_whole}
 use Rattle.record.proofs.Stays.{air_stays, payload_stays}
-use Rattle.record.proofs.Walking.{Stays, record_sound, cut_settled}
+use Rattle.record.proofs.Walking.{record_sound, cut_settled}
 use Rattle.lines.specs.Tallies.{nothing_heard}
 use Rattle.lines.specs.Lines.{title, closing_of}
 use Rattle.listing.specs.Listing.{full_at, tally_in, line_in, list_walk, listing_of, streamed_of}

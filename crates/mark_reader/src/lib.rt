@@ -1,4 +1,6 @@
 // A reader over `marks`, which holds the piece that is lent to it.
+#![tactic(auto)]
+
 ghost use Rattle.std.specs.Prelude.{◌≡◌};
 ghost use Rattle.marks.specs.Pieces.{taken_of, step_of};
 ghost use Rattle.mark_reader.specs.Readers.{reader_at};
@@ -6,7 +8,7 @@ ghost use Rattle.mark_reader.specs.Readers.{reader_at};
 use marks::{State, Step, Taken};
 
 // "A reader holds the lent piece and its position". The functions over it take it apart: the work is that of `find` and `take`.
-#[derive(Drop)]
+#[derive(Clone, Copy)]
 pub struct Reader<'a> {
     pub piece: &'a [u8],
     pub at: usize,

@@ -1,5 +1,7 @@
 // Marks out of a recording that comes in pieces, one bit a byte: each place where the marker is followed by 210 more bits.
 // What the bits say is not looked at here.
+#![tactic(auto)]
+
 mod scanning;
 
 ghost use Rattle.std.specs.Prelude.{◌≡◌, ◌++◌, ◌+◌, ◌-◌, ◌≤◌, ◌<◌, length, drop};
@@ -19,14 +21,14 @@ pub const WINDOW_BITS: usize = MARKER_BITS + AIR_BITS;
 pub const LONGEST_RECORDING: u32 = 4_294_967_295;
 
 // What is kept between pieces: the last 242 bits, zeros before the first, and how many bits were taken.
-#[derive(Drop)]
+#[derive(Clone, Copy)]
 pub struct State {
     pub bits: [u8; WINDOW_BITS],
     pub total: u32,
 }
 
 // A place where the marker is followed by 210 more bits, and these 242 bits.
-#[derive(Drop)]
+#[derive(Clone, Copy)]
 pub struct Mark {
     pub place: u32,
     pub window: [u8; WINDOW_BITS],
@@ -34,7 +36,7 @@ pub struct Mark {
 
 // The next mark and the position after its last bit. Where `found` is false the piece has no more, the mark is all 0, and `next` is
 // the piece's end.
-#[derive(Drop)]
+#[derive(Clone, Copy)]
 pub struct Step {
     pub found: bool,
     pub mark: Mark,
@@ -42,14 +44,14 @@ pub struct Step {
 }
 
 // What is answered to a piece.
-#[derive(Drop)]
+#[derive(Clone, Copy)]
 pub enum Verdict {
     Accepted,
     Refused(Refusal),
 }
 
 // The verdict, and the state after the piece: as it was, where the piece is refused.
-#[derive(Drop)]
+#[derive(Clone, Copy)]
 pub struct Taken {
     pub verdict: Verdict,
     pub state: State,

@@ -171,7 +171,7 @@ pub const STATES: usize = DATA + 16 * 2;
 pub const FRAME_AFTER: usize = VALUES + LENGTH;
 
 // The size of a record, and that of its reply.
-#[derive(Drop)]
+#[derive(Clone, Copy)]
 pub struct Sizes(pub usize, pub usize);
 
 // Both are 0 where the byte is no kind.

@@ -1,6 +1,7 @@
 // Numbers out of a record and into a reply: unsigned, high byte first.
 ghost use Rattle.std.specs.Prelude.{◌≡◌, ◌+◌, ◌-◌, ◌*◌, ◌^◌, ◌<◌, ◌≤◌, min, length};
 ghost use Rattle.marshalling.specs.Numbers.{two_at, four_at, eight_at};
+ghost use Rattle.marshalling.specs.declared.format.TheConstants.{LENGTH, PAYLOAD_ROOM, REPLY_BYTES};
 
 use crate::format;
 use crate::format::{Record, Reply};
@@ -68,7 +69,7 @@ pub fn part(bytes: &[u8], from: usize, to: usize) -> &[u8]
 
 // The bytes behind their length, which stands at a place, and of which there are at most so many.
 pub fn sized(bytes: &[u8], at: usize, most: usize) -> &[u8]
-    requires* { do ⌜ at + (← ⟦format::LENGTH⟧) + most ≤ length bytes.now ⌝ }
+    requires { at + LENGTH + most ≤ length bytes.now }
     ensures { length result.now ≤ most }
 {
     let start = at + format::LENGTH;
@@ -91,7 +92,7 @@ pub fn fill(bytes: &mut [u8], n: usize, start: u8, step: u8)
 // The payload of a rule, made at the front of `space`.
 pub fn payload_at<'a>(bytes: &[u8], at: usize, space: &'a mut [u8]) -> &'a [u8]
     requires at_in_bounds { at + 4 ≤ length bytes.now }
-    requires* do_in_bounds { do ⌜ (← ⟦format::PAYLOAD_ROOM⟧) ≤ length space.old ⌝ }
+    requires space_in_bounds { PAYLOAD_ROOM ≤ length space.old }
 {
     let size = length_at(bytes, at, format::PAYLOAD_ROOM);
     fill(space, size, bytes[at + 2], bytes[at + 3]);
@@ -100,7 +101,7 @@ pub fn payload_at<'a>(bytes: &[u8], at: usize, space: &'a mut [u8]) -> &'a [u8]
 
 // Puts a number, and answers the place after it. So do all that put one.
 pub fn put_byte(reply: &mut Reply, at: usize, n: u8) -> usize
-    requires* { do ⌜ at < (← ⟦format::REPLY_BYTES⟧) ⌝ }
+    requires { at < REPLY_BYTES }
     ensures { result ≡ at + 1 }
 {
     reply[at] = n;
@@ -109,7 +110,7 @@ pub fn put_byte(reply: &mut Reply, at: usize, n: u8) -> usize
 
 // Puts bytes one after the other.
 pub fn put_bytes(reply: &mut Reply, at: usize, bytes: &[u8]) -> usize
-    requires* { do ⌜ at + length bytes.now ≤ (← ⟦format::REPLY_BYTES⟧) ⌝ }
+    requires { at + length bytes.now ≤ REPLY_BYTES }
     ensures { result ≡ at + length bytes.now }
 {
     let mut k = 0;
@@ -121,7 +122,7 @@ pub fn put_bytes(reply: &mut Reply, at: usize, bytes: &[u8]) -> usize
 }
 
 pub fn put_two(reply: &mut Reply, at: usize, n: u16) -> usize
-    requires* { do ⌜ at + 2 ≤ (← ⟦format::REPLY_BYTES⟧) ⌝ }
+    requires { at + 2 ≤ REPLY_BYTES }
     ensures { result ≡ at + 2 }
 {
     let next = put_byte(reply, at, (n / 0x100) as u8);
@@ -130,7 +131,7 @@ pub fn put_two(reply: &mut Reply, at: usize, n: u16) -> usize
 
 // Puts numbers of two bytes one after the other.
 pub fn put_twos(reply: &mut Reply, at: usize, numbers: &[u16]) -> usize
-    requires* { do ⌜ at + 2 * length numbers.now ≤ (← ⟦format::REPLY_BYTES⟧) ⌝ }
+    requires { at + 2 * length numbers.now ≤ REPLY_BYTES }
     ensures { result ≡ at + 2 * length numbers.now }
 {
     let mut next = at;
@@ -143,7 +144,7 @@ pub fn put_twos(reply: &mut Reply, at: usize, numbers: &[u16]) -> usize
 }
 
 pub fn put_four(reply: &mut Reply, at: usize, n: u32) -> usize
-    requires* { do ⌜ at + 4 ≤ (← ⟦format::REPLY_BYTES⟧) ⌝ }
+    requires { at + 4 ≤ REPLY_BYTES }
     ensures { result ≡ at + 4 }
 {
     let next = put_two(reply, at, (n / 0x1_0000) as u16);
@@ -151,7 +152,7 @@ pub fn put_four(reply: &mut Reply, at: usize, n: u32) -> usize
 }
 
 pub fn put_eight(reply: &mut Reply, at: usize, n: u64) -> usize
-    requires* { do ⌜ at + 8 ≤ (← ⟦format::REPLY_BYTES⟧) ⌝ }
+    requires { at + 8 ≤ REPLY_BYTES }
     ensures { result ≡ at + 8 }
 {
     let next = put_four(reply, at, (n / 0x1_0000_0000) as u32);

@@ -1,5 +1,7 @@
 // Searches the recording on standard input for headers, after each read. It moves bits and does nothing else: what is taken of them, and
 // the text from the heading to the last line, are `reporting`'s.
+#![tactic(auto)]
+
 ghost use Rattle.std.specs.Prelude.{◌≡◌, ◌+◌, ◌*◌, ◌<◌, ◌≤◌, length};
 ghost use Rattle.word.specs.Repairs.{syndromes};
 ghost use Rattle.lines.specs.Tallies.{nothing_heard, total_of};
@@ -16,7 +18,7 @@ use streams::{Next, after_read, after_write, read_on, turns_left, write};
 use word::table::TABLE_ROWS;
 
 // What a piece's lines leave: the tally, and whether all writes went well.
-#[derive(Drop)]
+#[derive(Clone, Copy)]
 struct Progress {
     tally: Tally,
     wrote: bool,
@@ -59,7 +61,7 @@ fn report_all(
 
 // What a turn leaves: the state, the tally, why the search stopped, how many bytes the read left in the buffer, and how to go on. It is
 // done where it stopped too.
-#[derive(Drop)]
+#[derive(Clone, Copy)]
 struct Turned {
     state: State,
     tally: Tally,

@@ -1,13 +1,15 @@
 // The words after a program's name: `--strict`, and `--edition` with one of `flown` and `corrected`; a text; a number.
+#![tactic(auto)]
+
 ghost use Rattle.std.specs.Prelude.{◌≡◌};
 ghost use Rattle.options.specs.Numbers.{digit_of, parsed_of, Said};
 ghost use Rattle.options.specs.Words.{same_of, word_of, Given, settled_of, mistaken_of, edition_by, option_by, after_of, in_all, Asked};
 
 use base::Edition;
-use libc::STDERR_FILENO;
+use std::env::{Env, FillError};
 
 // What was asked for. `named` is set between `--edition` and its word.
-#[derive(Drop)]
+#[derive(Clone, Copy)]
 pub struct Options {
     pub strict: bool,
     pub edition: Edition,
@@ -17,7 +19,7 @@ pub struct Options {
 }
 
 // The words that programs know, and any other.
-#[derive(Drop)]
+#[derive(Clone, Copy)]
 pub enum Word {
     Strict,
     NamesEdition,
@@ -67,12 +69,14 @@ fn known(bytes: &[u8]) -> Word
 }
 
 // Word i. One that is not there, or is longer than any of those, is another.
-pub fn word_at(i: usize) -> Word
+pub fn word_at(rt: HostRuntime, i: usize) -> Word
     ensures { Given result }
 {
     let mut room = [0u8; ROOM];
-    let n = os::arg(i, &mut room);
-    known(&room[..n])
+    match rt.arg(i, &mut room) {
+        Ok(n) => known(&room[..n]),
+        Err(_) => known(&[]),
+    }
 }
 
 // What was asked for, now under this edition.
@@ -161,8 +165,21 @@ fn in_all(asked: Options) -> Options
     }
 }
 
+// How many words there are, the program's name among them.
+fn word_count(rt: HostRuntime) -> usize {
+    for i in 0..usize::MAX {
+        match rt.arg(i, &mut []) {
+            Err(FillError::NotPresent) => {
+                return i;
+            }
+            Err(FillError::TooLong) | Ok(_) => {}
+        }
+    }
+    usize::MAX
+}
+
 // Reads all words.
-pub fn read() -> Options
+pub fn read(rt: HostRuntime) -> Options
     ensures { Asked result }
 {
     let mut asked = Options {
@@ -171,10 +188,10 @@ pub fn read() -> Options
         named: false,
         wrong: false,
     };
-    let count = os::arg_count();
+    let count = word_count(rt);
     let mut i = 1;
     while i < count {
-        let next = after(asked, word_at(i));
+        let next = after(asked, word_at(rt, i));
         asked = next;
         i += 1;
     }
@@ -182,18 +199,21 @@ pub fn read() -> Options
 }
 
 // Tells of a wrong word, and of the right ones, where a program takes an edition and no other word.
-pub fn tell() {
-    io::write_all(
-        STDERR_FILENO,
-        b"edition flown or corrected: --edition wants one of these two, and there is no other word\n",
+pub fn tell(rt: HostRuntime) {
+    streams::say(
+        rt,
+        "edition flown or corrected: --edition wants one of these two, and there is no other word",
     );
 }
 
 // The most that a word may say.
 const MOST: u64 = 0xFFFF_FFFF;
 
+// Room for a word that says a number, with any zeros that it begins with.
+const NUMBER_ROOM: usize = 4096;
+
 // What a word says.
-#[derive(Drop)]
+#[derive(Clone, Copy)]
 pub enum Parsed {
     Number(u32),
     NoNumber,
@@ -233,10 +253,12 @@ fn parse(word: &[u8]) -> Parsed
 }
 
 // What word i says. A word that is not there, or is longer than any number, says none.
-pub fn number(i: usize) -> Parsed
+pub fn number(rt: HostRuntime, i: usize) -> Parsed
     ensures { Said result }
 {
-    let mut room = io::buffer();
-    let n = os::arg(i, &mut room);
-    parse(&room[..n])
+    let mut room = [0u8; NUMBER_ROOM];
+    match rt.arg(i, &mut room) {
+        Ok(n) => parse(&room[..n]),
+        Err(_) => parse(&[]),
+    }
 }

@@ -1,5 +1,7 @@
 // Writes the lines of text on standard input as records, after each read. It moves bytes and does nothing else: the records are
 // `packing`'s. Where a line is wrong it stops, and tells on standard error which line, at which column, why, and what to write.
+#![tactic(auto)]
+
 ghost use Rattle.std.specs.Prelude.{◌*◌, ◌<◌, ◌≤◌, length};
 ghost use Rattle.packing.specs.Lines.{longest_line};
 

@@ -1,6 +1,6 @@
 -- THE RECORDS OF PIECES: however the lines are cut into pieces, the records are those of the whole, and so is what is told at the end.
 -- Assumes nothing.
-use Rattle.std.proofs.Common.{◌≡◌, ℕ, ◌+◌, ◌^◌, ◌<◌, ◌≤◌, Bool, true, false, eqb, List, [], ◌++◌, length, take, sym, refl, ap, ◌∙◌, ⊎_elim, true≢false, arith, length-append}
+use Rattle.std.proofs.Common.{◌≡◌, ℕ, ◌+◌, ◌^◌, ◌<◌, ◌≤◌, eqb, List, [], ◌++◌, length, take, sym, refl, ap, ◌∙◌, ⊎_elim, true≢false, arith, length-append}
 use mathlib.Core.List.{flatten}
 use lib.ListN.{get_or-append}
 use lib.Seq.{take-append-le}

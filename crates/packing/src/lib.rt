@@ -1,4 +1,6 @@
 // Lines of text to records, the way back of `unpacking`: every line of a piece is packed, up to the first that is wrong.
+#![tactic(auto)]
+
 ghost use Rattle.std.specs.Prelude.{◌≡◌, ◌+◌, ◌*◌, ◌<◌, ◌≤◌, false, length};
 ghost use Rattle.air.specs.Air.{payload_limit};
 ghost use Rattle.base.specs.Lists.{place_in};
@@ -25,7 +27,7 @@ const MOST_DIGITS: usize = 2 * LONGEST_PAYLOAD;
 const NO_DIGIT: u8 = 16;
 
 // What is wrong with a line.
-#[derive(Drop)]
+#[derive(Clone, Copy)]
 pub enum Fault {
     // What stands before the first space is neither 210 bits nor 420 hex digits long.
     NoHeader,
@@ -42,14 +44,14 @@ pub enum Fault {
 }
 
 // Whether a line is well, or what is wrong with it and at which column.
-#[derive(Drop)]
+#[derive(Clone, Copy)]
 pub enum Judged {
     Fine,
     Wrong { fault: Fault, column: usize },
 }
 
 // A line was packed: whether it is well, and the place after its record.
-#[derive(Drop)]
+#[derive(Clone, Copy)]
 pub struct Packed {
     pub judged: Judged,
     pub to: usize,
@@ -57,7 +59,7 @@ pub struct Packed {
 
 // Some lines were packed: the lines before what is left, how many bytes are left, the place after the records, and what is wrong with the
 // line that is left.
-#[derive(Drop)]
+#[derive(Clone, Copy)]
 pub struct PackedLines {
     pub lines: u64,
     pub left: usize,
@@ -66,7 +68,7 @@ pub struct PackedLines {
 }
 
 // The input has ended, or a line is wrong: the place after the last record, and the number of the line that was judged.
-#[derive(Drop)]
+#[derive(Clone, Copy)]
 pub struct Ended {
     pub to: usize,
     pub line: u64,
@@ -74,7 +76,7 @@ pub struct Ended {
 }
 
 // What stands at the front of some bytes.
-#[derive(Drop)]
+#[derive(Clone, Copy)]
 pub enum Front {
     // A line of so many letters, and its line feed.
     Line { end: usize },

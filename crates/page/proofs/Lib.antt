@@ -3,7 +3,6 @@ pub mod Head
 pub mod Answer
 pub mod Given
 pub mod Twos
-pub mod Fitting
 pub mod RowBytes
 pub mod RoundTrip
 pub mod Printed

@@ -1,4 +1,6 @@
 // The text of every line about power pages, put into a lent slice at a place. Each function answers the place after what it put.
+#![tactic(auto)]
+
 mod rows;
 mod tables;
 
@@ -15,7 +17,7 @@ use rows::put_rows;
 use tables::ROWS;
 
 // How many records were pages so far, how many were accepted and were none, and how many were refused as frames.
-#[derive(Drop)]
+#[derive(Clone, Copy)]
 pub struct Counts {
     pub pages: u32,
     pub others: u32,

@@ -1,5 +1,7 @@
 // Lists the power pages of the records on standard input, after each read. It moves bytes and does nothing else: the text is that of
 // `page_listing`.
+#![tactic(auto)]
+
 ghost use Rattle.std.specs.Prelude.{◌≡◌, ◌*◌, ◌≤◌, length};
 ghost use Rattle.word.specs.Repairs.{syndromes};
 ghost use Rattle.air.specs.Air.{payload_limit};

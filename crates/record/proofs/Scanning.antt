@@ -8,13 +8,12 @@ use lib.ListN.{length, drop}
 use mir.Syntax.{w64}
 use mir.Val.{Fits}
 use Rattle.text.specs.Text.{Put}
-use Rattle.walk.specs.Walks.{whole, stopped, waiting, Walk}
+use Rattle.walk.specs.Walks.{whole, stopped, waiting}
 use Rattle.walk.specs.Scans.{Scanned}
 use Rattle.walk.proofs.Walking.{Sound}
 use Rattle.walk.proofs.Scanning as scan
 use Rattle.record.specs.declared.Cut.{Cut}
 use Rattle.record.specs.declared.Cut.TheVariants.{Record, TooLong, Short}
-use Rattle.record.specs.declared.Ending.{Ending}
 use Rattle.record.specs.declared.Ending.TheVariants.{Full, TooLong as LongLength}
 use Rattle.record.specs.Records.{record_size, cut_of}
 use Rattle.record.specs.Walks.{record_walk}

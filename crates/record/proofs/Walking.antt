@@ -3,13 +3,13 @@
 use mathlib.Core.Path.{◌≡◌, refl, sym, ap, ◌∙◌}
 use mathlib.Core.Bool.{Bool, true, false, cond, true≢false}
 use mathlib.Core.List.{List, [], ◌++◌}
-use Prim.Native.Nat.{ℕ, ◌+◌, ◌<◌, ◌≤◌}
+use Prim.Native.Nat.{ℕ, ◌<◌}
 use native.Mathlib.Omega.{arith}
 use borrow.Author.Tests.{lt-ltb}
-use lib.Dec.{lit<, ltb}
+use lib.Dec.{lit<}
 use lib.ListN.{length, length-append}
 use Rattle.air.specs.Air.{payload_limit}
-use Rattle.walk.specs.Walks.{Front, whole, stops, waits, Walk, Ended, waiting, stopped, closed_by}
+use Rattle.walk.specs.Walks.{Front, whole, stops, waits, Ended, waiting, stopped, closed_by}
 use Rattle.walk.specs.Scans.{Scanned}
 use Rattle.walk.proofs.Walking.{Sound, Stopped, halted, short}
 use Rattle.walk.proofs.Keeping.{left_short}

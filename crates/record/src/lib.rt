@@ -1,4 +1,6 @@
 // Records cut out of bytes: a length of two bytes, 210 header bytes, and that many payload bytes.
+#![tactic(auto)]
+
 ghost use Rattle.std.specs.Prelude.{◌≡◌, ◌+◌, ◌*◌};
 ghost use Rattle.record.specs.Records.{cut_of};
 ghost use Rattle.record.specs.Walks.{over_of};
@@ -12,7 +14,7 @@ pub const LENGTH_BYTES: usize = 2;
 pub const PAYLOAD_START: usize = LENGTH_BYTES + AIR_BITS;
 
 // What stands at the front of some bytes.
-#[derive(Drop)]
+#[derive(Clone, Copy)]
 pub enum Cut {
     // A whole record with so many payload bytes.
     Record { len: usize },
@@ -23,7 +25,7 @@ pub enum Cut {
 }
 
 // How a walk over records ended.
-#[derive(Drop)]
+#[derive(Clone, Copy)]
 pub enum Ending {
     // It waits for more bytes: those that are left are too few for a record.
     Waits,

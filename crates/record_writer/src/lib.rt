@@ -1,4 +1,6 @@
 // The writer of a record: the payload's length, the 210 air bits of its header, and the payload, as records of a pass are read.
+#![tactic(auto)]
+
 ghost use Rattle.std.specs.Prelude.{◌≡◌, ◌++◌, ◌≤◌, length, drop};
 ghost use Rattle.air.specs.Air.{air_bits, payload_limit};
 ghost use Rattle.record.specs.Records.{record_size};

@@ -1,5 +1,7 @@
 // Writes the report over the power pages of files of records, one report over all of them in order. It moves bytes and does nothing else: the
 // text is that of `report_listing`. The words after its name are names of files; `-` is standard input, and so is no word at all.
+#![tactic(auto)]
+
 ghost use Rattle.std.specs.Prelude.{◌≡◌, ◌*◌, ◌<◌, ◌≤◌, length};
 ghost use Rattle.word.specs.Repairs.{syndromes};
 ghost use Rattle.air.specs.Air.{payload_limit};
@@ -24,7 +26,7 @@ use word::table::TABLE_ROWS;
 const MOST_FILES: usize = 65536;
 
 // What the files so far left, how many bytes of the last one are left, and whether it was read to its end.
-#[derive(Drop)]
+#[derive(Clone, Copy)]
 struct Heard {
     pass: Pass,
     left: usize,

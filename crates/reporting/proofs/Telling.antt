@@ -1,7 +1,7 @@
 -- The lines of marks, one after the other; and the loop that puts them.
 -- Assumes nothing.
 use mathlib.Core.Path.{◌≡◌, refl, sym, ap, ◌∙◌}
-use mathlib.Core.Bool.{Bool, true, false, not, true≢false, false≢true}
+use mathlib.Core.Bool.{true, false, not, true≢false, false≢true}
 use mathlib.Core.List.{List, [], ◌∷◌, ◌++◌, append_assoc, append-nil}
 use Prim.Native.Nat.{ℕ, ◌+◌, ◌-◌, ◌<◌, ◌≤◌, zero-le}
 use native.Mathlib.Nat.{le_refl}
@@ -25,7 +25,6 @@ use Rattle.lines.specs.Rooms.{line_room}
 use Rattle.lines.specs.Recordings.{report_line}
 use Rattle.lines.proofs.Counting.{counts_one}
 use Rattle.reporting.specs.declared.Line.{Line}
-use Rattle.reporting.specs.declared.Told.{Told}
 use Rattle.reporting.specs.Texts.{mark_line, lines_of, tally_mark, tally_over}
 use Rattle.reporting.specs.Promises.{NextMark, LinePut, Reported}
 

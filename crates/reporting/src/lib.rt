@@ -1,5 +1,7 @@
 // A search through a recording: what opens it; what is taken of bits that were read, and the lines of the marks of a piece, as many as a
 // lent buffer has room for; what closes it.
+#![tactic(auto)]
+
 ghost use Rattle.std.specs.Prelude.{◌≡◌, ◌+◌, ◌*◌, ◌<◌, ◌≤◌, length};
 ghost use Rattle.word.specs.Repairs.{syndromes};
 ghost use Rattle.marks.specs.Pieces.{longest_recording};
@@ -19,7 +21,7 @@ use word::table::TABLE_ROWS;
 pub const LINE_ROOM: usize = 168;
 
 // A search is opened: the state before the first bit, the tally of nothing, and the place after the heading.
-#[derive(Drop)]
+#[derive(Clone, Copy)]
 pub struct Opened {
     pub state: State,
     pub tally: Tally,
@@ -43,7 +45,7 @@ pub fn open(out: &mut [u8]) -> Opened
 }
 
 // How many of the bits that were read are taken, the state after these, and why no more are.
-#[derive(Drop)]
+#[derive(Clone, Copy)]
 pub struct Taking {
     pub n: usize,
     pub state: State,
@@ -98,14 +100,14 @@ pub fn take_front(state: State, bits: &[u8]) -> Taking
 }
 
 // A line was put: the tally after its header, and the place after it.
-#[derive(Drop)]
+#[derive(Clone, Copy)]
 struct Line {
     tally: Tally,
     to: usize,
 }
 
 // Some marks were told: the tally after their headers, the place after their lines, the position in the piece, and whether no more are left.
-#[derive(Drop)]
+#[derive(Clone, Copy)]
 pub struct Told {
     pub tally: Tally,
     pub to: usize,

@@ -83,6 +83,7 @@ module _ {A : Type 0} (P : A → Type 0) where
   given_holds : (a : A) (ks : List (Check A)) → Each ks → Given ks a → P a
   given_holds a (k ∷ ks) each (here t) = each.0 t
   given_holds a (k ∷ ks) each (later t g) = given_holds a ks each.1 g
+  given_holds a [] each x'' = elim x'' [ ]
 
 -- whether n is one of some numbers
 abbrev among : List ℕ → ℕ → Bool

@@ -1,5 +1,7 @@
 // Header answers out of a recording: what the header reader answers to the 210 bits after each marker, at the usual limit. "Payloads
 // aren't read here, so checks 7 and 8 aren't applied."
+#![tactic(auto)]
+
 ghost use Rattle.std.specs.Prelude.{◌≡◌};
 ghost use Rattle.word.specs.Repairs.{syndromes};
 ghost use Rattle.search.specs.Reports.{window_read, mark_read};

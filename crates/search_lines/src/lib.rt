@@ -1,4 +1,6 @@
 // The lines of a search through a recording, put into a lent slice at a place. Each function answers the place after what it put.
+#![tactic(auto)]
+
 ghost use Rattle.std.specs.Prelude.{◌+◌, ◌*◌, ◌≤◌, length};
 ghost use Rattle.text.specs.Text.{Put};
 ghost use Rattle.lines.specs.Recordings.{heading, report_line, stop_of, last_of, ending_of};

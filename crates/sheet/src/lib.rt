@@ -1,5 +1,7 @@
 // The pass sheet: a record of two lanes for each source, and a count for each refusal of a frame. A new sheet is the only reset.
 // A sheet belongs to one edition: `Sheet` to the flown one, `WideSheet` (crate `wide_sheet`) to the corrected one.
+#![tactic(auto)]
+
 ghost use Rattle.std.specs.Prelude.{◌≡◌, ◌*◌, ◌<◌, ◌≤◌};
 ghost use Rattle.word.specs.Repairs.{syndromes};
 ghost use Rattle.sign.specs.Calls.{call_of};
@@ -19,14 +21,14 @@ use word::table::TABLE_ROWS;
 pub const RECORDS: usize = header::LAST_FLOWN_SOURCE as usize + 1;
 
 // A record for each SrcId of the flown edition; and in `refusals[k]` how many frames were refused with the number that count k is of.
-#[derive(Drop)]
+#[derive(Clone, Copy)]
 pub struct Sheet {
     pub sources: [Source; RECORDS],
     pub refusals: [u32; REFUSAL_COUNTS],
 }
 
 // What was read of an offered frame, and the sheet after it.
-#[derive(Drop)]
+#[derive(Clone, Copy)]
 pub struct Offered {
     pub read: Read,
     pub sheet: Sheet,

@@ -1,5 +1,7 @@
 // Writes the pass sheet of the records on standard input. It moves bytes and does nothing else: the text is that of `sheet_listing`. The
 // words after its name are those of `options`.
+#![tactic(auto)]
+
 ghost use Rattle.std.specs.Prelude.{◌≡◌, ◌≤◌, length};
 ghost use Rattle.word.specs.Repairs.{syndromes};
 ghost use Rattle.air.specs.Air.{payload_limit};

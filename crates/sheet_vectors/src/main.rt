@@ -1,4 +1,6 @@
 // What the library answers to the stored vectors about headers and frames that are read, and about sheets, as `vectors` does to the others.
+#![tactic(auto)]
+
 use marshalling::format;
 
 mod frames;

@@ -11,12 +11,11 @@ use lib.ListN.{length, get_or, get_or-eq_default}
 use borrow.Author.Tests.{eq-eqb, ne_eqb, eqb-true, eqb-false, not-false}
 use Rattle.base.specs.declared.Edition.{Edition}
 use Rattle.base.specs.declared.Edition.TheVariants.{Flown, Corrected}
-use Rattle.base.specs.Lists.{lowest}
 use Rattle.base.proofs.Tabulate.{tabulate_length, tabulate_at, tabulate_is, tabulate_all}
 use Rattle.base.proofs.Lowest.{Passed, starts, goes_on, stops, ends, lowest_is, lowest_none}
 use Rattle.air.specs.Air.{first_no_bit}
 use Rattle.air.proofs.Bits.{no_bit_none}
-use Rattle.sign.specs.CallSigns.{call_sign, sign_bit, sign_width, sign_of}
+use Rattle.sign.specs.CallSigns.{sign_bit, sign_width, sign_of}
 use Rattle.sign.specs.Calls.{Call, absent, given, call_of, looks_at, looked_at, fault_at, first_other, other_at, Agrees}
 
 pub past_end : (call : List ℕ) (n : ℕ) → length call ≤ n → 0 ≡ get_or call n 0

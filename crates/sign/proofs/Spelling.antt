@@ -7,7 +7,7 @@ use native.Mathlib.Omega.{arith}
 use lib.ListN.{get_or, replicate}
 use Rattle.base.proofs.Tabulate.{read_replicated}
 use Rattle.text.specs.Text.{ascii}
-use Rattle.sign.specs.CallSigns.{call_signs, call_sign, sign_bit}
+use Rattle.sign.specs.CallSigns.{call_sign, sign_bit}
 
 -- five characters are those of all four, and the last tells the satellite
 abbrev pub spelled : ℕ → List ℕ

@@ -1,4 +1,6 @@
 // The call signs of the four S-NET satellites as 48 bits, and the bits that an upload may include held against them.
+#![tactic(auto)]
+
 ghost use Rattle.std.specs.Prelude.{◌≡◌, get_or};
 ghost use Rattle.sign.specs.CallSigns.{call_sign, sign_bit, sign_of};
 ghost use Rattle.sign.specs.Calls.{call_of, looks_at, looked_at, fault_at, first_other, other_at};

@@ -1,4 +1,6 @@
 // One source's record, of two lanes, and the counts of refusals: what a sheet is made of, whatever its edition.
+#![tactic(auto)]
+
 ghost use Rattle.std.specs.Prelude.{◌≡◌, ◌*◌, ◌≤◌};
 ghost use Rattle.source.specs.Records.{count_limit, add_of, missed_of, tally_of, next_of};
 ghost use Rattle.source.specs.Lanes.{lanes, silent, hear_of, frames_of, repaired_of, summed_of};
@@ -32,7 +34,7 @@ const COUNTED: [u8; REFUSAL_COUNTS] = [
 const COUNTERS: u8 = 16;
 
 // What is counted of one lane. Where it was never heard, `last` says nothing.
-#[derive(Drop)]
+#[derive(Clone, Copy)]
 pub struct Lane {
     pub frames: u32,
     pub repaired: u32,
@@ -46,14 +48,14 @@ pub struct Lane {
 const CALLER: u8 = 1;
 
 // A source's two lanes, by the Caller bit: what it sent as caller, and what it sent as responder.
-#[derive(Drop)]
+#[derive(Clone, Copy)]
 pub struct Source {
     pub caller: Lane,
     pub responder: Lane,
 }
 
 // A source's numbers for display: its lanes, and over both the frames and the repaired bits.
-#[derive(Drop)]
+#[derive(Clone, Copy)]
 pub struct Display {
     pub caller: Lane,
     pub responder: Lane,

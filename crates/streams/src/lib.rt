@@ -1,12 +1,15 @@
 // Standard input read on into a buffer, and standard output written: what programs share. A failure is told on standard error.
+#![tactic(auto)]
+
 ghost use Rattle.std.specs.Prelude.{◌≡◌, ◌+◌, ◌-◌, ◌%◌, ◌^◌, ◌<◌, ◌≤◌, false, length};
 ghost use Rattle.streams.specs.declared.Next.TheVariants.{More};
 ghost use Rattle.streams.specs.Turns.{ReadOn, read_on, onward_of, done_of, TurnsLeft};
 
-use libc::{STDIN_FILENO, STDOUT_FILENO};
+use std::io;
+use std::io::{Print, Read, Write};
 
 // How to go on.
-#[derive(Drop)]
+#[derive(Clone, Copy)]
 pub enum Next {
     // There is more to read.
     More,
@@ -17,47 +20,66 @@ pub enum Next {
 }
 
 // So many bytes are in the buffer.
-#[derive(Drop)]
+#[derive(Clone, Copy)]
 pub struct Filled {
     pub end: usize,
     pub next: Next,
 }
 
+// Says something on standard error. Where that fails too, nobody is left to be told.
+pub fn say(rt: HostRuntime, what: &str) {
+    match writeln!(rt.stderr(), "{what}") {
+        Ok(()) => {}
+        Err(_) => {}
+    }
+}
+
+// Tells on standard error what failed, and why. Where that fails too, nobody is left to be told.
+pub fn tell(rt: HostRuntime, what: &str, why: io::Error) {
+    match writeln!(rt.stderr(), "{what}: {why}") {
+        Ok(()) => {}
+        Err(_) => {}
+    }
+}
+
 // Reads once, after the bytes that were kept: what is still coming is seen as far as it has come.
-pub fn read_on(buf: &mut [u8], kept: usize) -> Filled
+pub fn read_on(rt: HostRuntime, buf: &mut [u8], kept: usize) -> Filled
     requires { kept < length buf.old }
     ensures { ReadOn buf.old kept result }
 {
     let part = &mut buf[kept..];
-    let got = libc::read(STDIN_FILENO, part);
-    if got < 0 {
-        os::fail(b"read");
-        return Filled {
-            end: kept,
-            next: Next::Failed,
-        };
-    }
-    let n = io::count(got, part);
-    if n == 0 {
-        return Filled {
-            end: kept,
-            next: Next::Done,
-        };
-    }
-    let end = kept + n;
-    Filled {
-        end,
-        next: Next::More,
+    let got = rt.stdin().read(part);
+    match got {
+        Ok(n) => {
+            if n == 0 {
+                return Filled {
+                    end: kept,
+                    next: Next::Done,
+                };
+            }
+            let end = kept + n;
+            Filled {
+                end,
+                next: Next::More,
+            }
+        }
+        Err(why) => {
+            tell(rt, "read", why);
+            Filled {
+                end: kept,
+                next: Next::Failed,
+            }
+        }
     }
 }
 
 // Reads until the buffer is full or the input ends.
-pub fn fill(buf: &mut [u8]) -> Filled
+pub fn fill(rt: HostRuntime, buf: &mut [u8]) -> Filled
     ensures { result.end ≤ length buf.new }
 {
     let mut end = 0;
     while end < buf.len() {
-        let filled = read_on(buf, end);
+        let filled = read_on(rt, buf, end);
         let next = filled.next;
         match next {
             Next::More => {}
@@ -77,7 +99,7 @@ pub fn fill(buf: &mut [u8]) -> Filled
 }
 
 // The length of a whole input, and how the last read went.
-#[derive(Drop)]
+#[derive(Clone, Copy)]
 pub struct Counted {
     pub size: usize,
     pub next: Next,
@@ -95,14 +117,14 @@ fn longer(size: usize, more: usize) -> usize
 }
 
 // Reads an input that has filled the buffer to its end, and counts all of it: never less than the buffer.
-pub fn count_on(buf: &mut [u8]) -> Counted
+pub fn count_on(rt: HostRuntime, buf: &mut [u8]) -> Counted
     requires { 0 < length buf.old }
     ensures { length buf.old ≤ result.size }
 {
     let mut size = buf.len();
     let mut turns = u64::MAX;
     while turns > 0 {
-        let filled = read_on(buf, 0);
+        let filled = read_on(rt, buf, 0);
         let next = filled.next;
         match next {
             Next::More => {}
@@ -123,12 +145,14 @@ pub fn count_on(buf: &mut [u8]) -> Counted
 }
 
 // Writes all bytes, and answers whether that went well.
-pub fn write(bytes: &[u8]) -> bool {
-    if io::write_all(STDOUT_FILENO, bytes) {
-        return true;
+pub fn write(rt: HostRuntime, bytes: &[u8]) -> bool {
+    match Print::write_all(&rt, bytes) {
+        Ok(()) => true,
+        Err(why) => {
+            tell(rt, "write", why);
+            false
+        }
     }
-    os::fail(b"write");
-    false
 }
 
 // How to go on after a read, where what came before may be all that is wanted. A failed read stays one.
@@ -158,11 +182,11 @@ pub fn after_write(read: Next, wrote: bool) -> Next
 }
 
 // Writes the first `to` bytes, and answers how to go on, after the read before that, where what came may be all that is wanted.
-pub fn send(out: &[u8], to: usize, read: Next, over: bool) -> Next
+pub fn send(rt: HostRuntime, out: &[u8], to: usize, read: Next, over: bool) -> Next
     requires { to ≤ length out.now }
     ensures { result ≡ More → over ≡ false }
 {
-    let wrote = write(&out[..to]);
+    let wrote = write(rt, &out[..to]);
     after_write(after_read(read, over), wrote)
 }
 
@@ -196,5 +220,5 @@ pub fn moved_on(front: u64, end: usize, left: usize) -> u64
     ensures { result ≡ (front + (end - left)) % 2 ^ 64 }
 {
     let passed = end - left;
-    std::num::wrapping_add_u64(front, passed as u64)
+    front.wrapping_add(passed as u64)
 }

@@ -1,5 +1,7 @@
 // Writes the records on standard input as lines of text, after each read. It moves bytes and does nothing else: the text is `unpacking`'s.
 // Where bytes are left that are no record, it tells on standard error at which byte and why.
+#![tactic(auto)]
+
 ghost use Rattle.std.specs.Prelude.{◌*◌, ◌≤◌, length};
 ghost use Rattle.air.specs.Air.{payload_limit};
 ghost use Rattle.record.specs.Records.{record_size};

@@ -1,5 +1,6 @@
 // Power pages, read and written, and shown values.
 ghost use Rattle.std.specs.Prelude.{◌≡◌, ◌+◌, ◌≤◌, length};
+ghost use Rattle.marshalling.specs.declared.format.TheConstants.{REPLY_BYTES, VALUES};
 
 use base::Written;
 use marshalling::format::{Record, Reply};
@@ -12,7 +13,7 @@ const HELD: u8 = 0xA7;
 
 // Puts the payload header but for the time tag, and answers the place after it.
 fn put_fields(reply: &mut Reply, f: PageFields) -> usize
-    ensures* { do ⌜ result ≡ (← (⟦format::VALUES⟧).entry) + 17 ⌝ }
+    ensures { result ≡ VALUES + 17 }
 {
     let next = numbers::put_four(reply, format::VALUES, f.fsync);
     let next = numbers::put_two(reply, next, f.crc14);
@@ -40,7 +41,7 @@ fn row_bits(x: i16) -> u16 {
 
 // Puts the rows, and answers the place after them.
 fn put_rows(reply: &mut Reply, at: usize, rows: [i16; 17]) -> usize
-    requires* { do ⌜ at + 34 ≤ (← ⟦format::REPLY_BYTES⟧) ⌝ }
+    requires { at + 34 ≤ REPLY_BYTES }
     ensures { result ≡ at + 34 }
 {
     let mut next = at;

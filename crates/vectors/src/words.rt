@@ -1,5 +1,6 @@
 // Words, checksums and call signs.
 ghost use Rattle.std.specs.Prelude.{◌≡◌, ◌+◌, ◌<◌, ◌≤◌, ◌^◌};
+ghost use Rattle.marshalling.specs.declared.format.TheConstants.{RECORD_BYTES, REPAIRED, REPLY_BYTES};
 
 use marshalling::format::{Record, Reply};
 use marshalling::{format, numbers};
@@ -7,8 +8,8 @@ use word::Repaired;
 
 // Puts what repair makes of a number, and leaves zeros where it is beyond repair.
 fn put_repaired(reply: &mut Reply, at: usize, repaired: Repaired) -> usize
-    requires* { do ⌜ at + (← ⟦format::REPAIRED⟧) ≤ (← ⟦format::REPLY_BYTES⟧) ⌝ }
-    ensures* { do ⌜ result ≡ at + (← (⟦format::REPAIRED⟧).entry) ⌝ }
+    requires { at + REPAIRED ≤ REPLY_BYTES }
+    ensures { result ≡ at + REPAIRED }
 {
     match repaired {
         Repaired::Word { word, flips } => {
@@ -43,7 +44,7 @@ pub fn crc13_reply(record: &Record, reply: &mut Reply) {
 
 // Five bits, the first in the highest place.
 fn five_at(record: &Record, at: usize) -> u64
-    requires* { do ⌜ at + 5 ≤ (← ⟦format::RECORD_BYTES⟧) ⌝ }
+    requires { at + 5 ≤ RECORD_BYTES }
     ensures { result < 2 ^ 5 }
 {
     numbers::wide(record[at]) % 2 * 16
@@ -55,7 +56,7 @@ fn five_at(record: &Record, at: usize) -> u64
 
 // Fifteen bits.
 fn fifteen_at(record: &Record, at: usize) -> u64
-    requires* { do ⌜ at + 15 ≤ (← ⟦format::RECORD_BYTES⟧) ⌝ }
+    requires { at + 15 ≤ RECORD_BYTES }
     ensures { result < 2 ^ 15 }
 {
     five_at(record, at) * 0x400 + five_at(record, at + 5) * 0x20 + five_at(record, at + 10)

@@ -1,6 +1,6 @@
 -- The loop of a function that walks over bytes and puts texts: the items before `used` are taken, and their texts are put.
 -- Assumes nothing.
-use mathlib.Core.Path.{◌≡◌, refl, sym, ap, ◌∙◌}
+use mathlib.Core.Path.{◌≡◌, refl, ap, ◌∙◌}
 use mathlib.Core.List.{List, [], ◌++◌, append_assoc, append-nil}
 use Prim.Native.Nat.{ℕ, ◌+◌, ◌-◌, ◌*◌, ◌^◌, ◌<◌, ◌≤◌}
 use native.Mathlib.Omega.{arith}
@@ -11,7 +11,7 @@ use mir.Syntax.{w64}
 use mir.Val.{Fits}
 use Rattle.text.specs.Text.{Put}
 use Rattle.text.proofs.Laid.{put_none, put_then}
-use Rattle.walk.specs.Walks.{whole, Walk, Ended, Walked, halt, behind, walk_of}
+use Rattle.walk.specs.Walks.{whole, Walk, Ended, halt, behind, walk_of}
 use Rattle.walk.specs.Scans.{Scanned}
 use Rattle.walk.proofs.Walking.{Sound, Stopped, walk_stops, walk_takes}
 

@@ -1,5 +1,7 @@
 // Walks over bytes: what is cut off their front, piece after piece, until it stops or waits for more. What stands here are definitions (specs/) and laws
 // (proofs/) that every listing cites, whatever it cuts off; and what is left of a buffer is kept.
+#![tactic(auto)]
+
 ghost use Rattle.std.specs.Prelude.{◌+◌, ◌≤◌, length};
 ghost use Rattle.walk.specs.Moves.{Moved};
 

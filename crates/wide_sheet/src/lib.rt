@@ -1,4 +1,6 @@
 // The wide sheet, of the corrected edition: 128 records. What does not see them is that of `Sheet`.
+#![tactic(auto)]
+
 ghost use Rattle.std.specs.Prelude.{◌≡◌, ◌*◌, ◌<◌, ◌≤◌};
 ghost use Rattle.word.specs.Repairs.{syndromes};
 ghost use Rattle.frame.specs.Frames.{frame};
@@ -19,14 +21,14 @@ use word::table::TABLE_ROWS;
 pub const WIDE_RECORDS: usize = header::LAST_CORRECTED_SOURCE as usize + 1;
 
 // A record for each SrcId; and counts of refusals, as those of `Sheet`.
-#[derive(Drop)]
+#[derive(Clone, Copy)]
 pub struct WideSheet {
     pub sources: [Source; WIDE_RECORDS],
     pub refusals: [u32; REFUSAL_COUNTS],
 }
 
 // What was read of an offered frame, and the sheet after it.
-#[derive(Drop)]
+#[derive(Clone, Copy)]
 pub struct WideOffered {
     pub read: Read,
     pub sheet: WideSheet,

@@ -1,4 +1,6 @@
 // One coded word: the 32 valid words, the plain search for the nearest of them, and repair by the syndrome table.
+#![tactic(auto)]
+
 ghost use Rattle.std.specs.Prelude.{◌≡◌, ◌<◌};
 ghost use Rattle.word.specs.Words.{word_limit, valid_count, multiple_of, encode_of};
 ghost use Rattle.word.specs.Repairs.{remainder_of, repair_of, syndromes};
@@ -20,7 +22,7 @@ const VALID_COUNT: u16 = 32;
 pub const RADIUS: u32 = 3;
 
 // What repair makes of a number: the valid word within three flips of it, and the flips: bit i is set where position i was flipped.
-#[derive(Drop)]
+#[derive(Clone, Copy)]
 pub enum Repaired {
     Word { word: u16, flips: u16 },
     Beyond,

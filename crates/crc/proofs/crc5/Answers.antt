@@ -1,0 +1,11 @@
+-- `crc::crc5` meets its contract: what counts of the lower number is what counts of the header.
+-- Assumes nothing.
+use borrow.Author.Rules.{rules}
+use Rattle.crc.proofs.TwoNumbers.{counted_lt, counted_in}
+use Rattle.crc.proofs.crc5.Goals as goal
+
+pub crc5_over-requires : goal.crc5_over-requires
+crc5_over-requires c = search (rules, counted_lt)
+
+pub returns : goal.returns
+returns c = search (rules, counted_in)

@@ -1,0 +1,8 @@
+-- `lines::put_title` meets its contract.
+-- Assumes nothing.
+use borrow.Author.Rules.{rules}
+use Rattle.lines.proofs.Putting.{put_title}
+use Rattle.lines.proofs.put_title.Goals as goal
+
+pub returns-clause-put : goal.returns-clause-put
+returns-clause-put c = search (rules, put_title)

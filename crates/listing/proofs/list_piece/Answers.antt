@@ -1,0 +1,23 @@
+-- `listing::list_piece` meets its contract: the records of the piece are listed, and what is left goes to the front.
+-- Assumes nothing.
+use borrow.Author.Rules.{rules}
+use Rattle.text.proofs.Sizes.{part_size}
+use Rattle.walk.proofs.Keeping.{left_inside, left_room}
+use Rattle.listing.proofs.Streaming.{list_sound}
+use Rattle.listing.proofs.Scanning.{part_fits}
+use Rattle.listing.proofs.list_piece.Goals as goal
+
+pub slice_bounds-list_records-end-2 : goal.slice_bounds-list_records-end-2
+slice_bounds-list_records-end-2 c = search (rules, part_size)
+
+pub list_records-listed-requires : goal.list_records-listed-requires
+list_records-listed-requires c = search (rules, part_fits)
+
+pub overflow_sub-end : goal.overflow_sub-end
+overflow_sub-end c = search (rules, left_inside, list_sound)
+
+pub keep-requires : goal.keep-requires
+keep-requires c = search (rules, left_room, list_sound)
+
+pub returns : goal.returns
+returns c = search (rules, left_inside, list_sound)

@@ -1,0 +1,14 @@
+-- `marks::scanning::edge` meets its contract. Invariant: the elements before i are filled.
+-- Assumes nothing.
+use Prim.Native.Nat.{◌-◌}
+use mathlib.Core.List.{◌++◌}
+use Rattle.base.proofs.Fill.{Filled}
+use Rattle.marks.specs.Scanning.{edge_bits}
+use Rattle.marks.proofs.Joining.{element_of}
+use Rattle.marks.proofs.scanning.edge.Given as goal
+
+abbrev pub invariant-loop-i : goal.invariant-loop-i
+invariant-loop-i l = Filled (element_of (l.kept ++ l.piece)) edge_bits l.initial.bits l.i l.bits
+
+abbrev pub decreases-loop-i : goal.decreases-loop-i
+decreases-loop-i l = edge_bits - l.i

@@ -1,0 +1,8 @@
+-- `search_lines::put_stop` meets its contract, by the cases of the stop.
+-- Assumes nothing.
+use borrow.Author.Rules.{rules}
+use Rattle.lines.proofs.Searching.{stop_nowhere, stop_stopped}
+use Rattle.search_lines.proofs.put_stop.Goals as goal
+
+pub returns-in-Nowhere-clause-put : goal.returns-in-Nowhere-clause-put
+returns-in-Nowhere-clause-put c = search (rules, stop_nowhere, stop_stopped)

@@ -1,0 +1,12 @@
+-- `unpack_records` meets its contract. Invariant: the records before `used` are taken, and their lines are put.
+-- Assumes nothing.
+use Prim.Native.Nat.{◌-◌}
+use lib.ListN.{length}
+use Rattle.unpacking.proofs.Scanning.{Scanning}
+use Rattle.unpacking.proofs.unpack_records.Given as goal
+
+abbrev pub invariant-loop-len : goal.invariant-loop-len
+invariant-loop-len l = Scanning l.piece l.initial.out l.at l.out l.used l.to
+
+abbrev pub decreases-loop-len : goal.decreases-loop-len
+decreases-loop-len l = length l.piece - l.used
