@@ -7,7 +7,6 @@ ghost use Rattle.marks.specs.Pieces.{step_of, taken_of};
 
 use base::Edition;
 use header::{Answer, Read};
-use libc::{STDIN_FILENO, STDOUT_FILENO};
 use marks::{MARKER_BITS, Mark, State, Step, Taken, WINDOW_BITS};
 
 // The most marks that are compared.
@@ -16,12 +15,11 @@ const MOST: usize = 64;
 // More than any number of marks: one was another.
 const OTHER: usize = MOST + 1;
 
+// Room for the recording.
+const ROOM: usize = 65536;
+
 // No satellite: a header alone.
 const NO_CALL: u8 = 4;
-
-fn say(text: &[u8]) {
-    io::write_all(STDOUT_FILENO, text);
-}
 
 // What `marks::find` answers, by a reader of the piece that is moved to the position.
 fn found(state: State, piece: &[u8], at: usize) -> Step
@@ -156,25 +154,31 @@ fn accepted(bits: &[u8], satellite: u8) -> u64 {
     good
 }
 
-fn told(name: &[u8], number: u64) {
-    say(name);
-    io::print_decimal(STDOUT_FILENO, number);
-    say(b"\n");
+// Tells a number on a line. A write that fails is told on standard error.
+fn told(rt: HostRuntime, name: &str, number: u64) {
+    match println!(rt; "{name} {number}") {
+        Ok(()) => {}
+        Err(why) => streams::tell(rt, "write", why),
+    }
 }
 
-fn main() {
-    let mut buf = io::large_buffer();
-    let n = io::read_full(STDIN_FILENO, &mut buf);
+fn main(rt: HostRuntime) {
+    let mut buf = [0u8; ROOM];
+    let n = streams::fill(rt, &mut buf).end;
     let bits = &buf[..n];
     let mut places = [0u32; MOST];
     let marks = collect(marks::fresh(), bits, &mut places);
-    told(b"bits ", n as u64);
-    told(b"marks ", marks as u64);
-    told(b"cuts with the same marks ", all_cuts(bits, &places, marks));
-    told(b"marks bit by bit ", bit_by_bit(bits, &places) as u64);
-    told(b"accepted ", accepted(bits, NO_CALL));
-    told(b"accepted with the call sign of A ", accepted(bits, 0));
-    told(b"accepted with the call sign of B ", accepted(bits, 1));
-    told(b"accepted with the call sign of C ", accepted(bits, 2));
-    told(b"accepted with the call sign of D ", accepted(bits, 3));
+    told(rt, "bits", n as u64);
+    told(rt, "marks", marks as u64);
+    told(
+        rt,
+        "cuts with the same marks",
+        all_cuts(bits, &places, marks),
+    );
+    told(rt, "marks bit by bit", bit_by_bit(bits, &places) as u64);
+    told(rt, "accepted", accepted(bits, NO_CALL));
+    told(rt, "accepted with the call sign of A", accepted(bits, 0));
+    told(rt, "accepted with the call sign of B", accepted(bits, 1));
+    told(rt, "accepted with the call sign of C", accepted(bits, 2));
+    told(rt, "accepted with the call sign of D", accepted(bits, 3));
 }

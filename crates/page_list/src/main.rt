@@ -15,9 +15,14 @@ use record::is_over;
 use streams::{is_done, read_on, send, turns_left, write};
 use word::table::TABLE_ROWS;
 
+// The lines of a record may be 16 times as long as it, so what is read at once is a sixteenth of what is written.
+const BUFFER_BYTES: usize = 4096;
+
+const OUTPUT_BYTES: usize = 65536;
+
 // Lists the input, read by read. Where a read or a write fails, the lines up to there are written, and no last line.
 // The turns are counted down from a number that no run uses up: each but the last reads a byte.
-fn list(table: &[u16; TABLE_ROWS], rules: Rules, buf: &mut [u8], out: &mut [u8])
+fn list(rt: HostRuntime, table: &[u16; TABLE_ROWS], rules: Rules, buf: &mut [u8], out: &mut [u8])
     requires table_value { table.now ≡ syndromes }
     requires rules_value { rules ≡ page_rules }
     requires payload_limit_in_bounds { record_size payload_limit ≤ length buf.old }
@@ -25,7 +30,7 @@ fn list(table: &[u16; TABLE_ROWS], rules: Rules, buf: &mut [u8], out: &mut [u8])
 {
     let opened = page_listing::open(out);
     let title = opened.to;
-    if !write(&out[..title]) {
+    if !write(rt, &out[..title]) {
         return;
     }
     let mut counts = opened.counts;
@@ -33,31 +38,30 @@ fn list(table: &[u16; TABLE_ROWS], rules: Rules, buf: &mut [u8], out: &mut [u8])
     let mut ended = false;
     let mut turns = u64::MAX;
     while turns > 0 {
-        let filled = read_on(buf, kept);
+        let filled = read_on(rt, buf, kept);
         let end = filled.end;
         let listed = page_listing::list_piece(table, rules, counts, buf, end, out);
         counts = listed.counts;
         kept = listed.left;
         let read = filled.next;
         let ending = listed.ending;
-        let next = send(out, listed.to, read, is_over(ending));
+        let next = send(rt, out, listed.to, read, is_over(ending));
         ended = is_done(next);
         turns = turns_left(turns, next);
     }
     if ended {
         let n = page_listing::close(counts, kept, out);
-        write(&out[..n]);
+        write(rt, &out[..n]);
     }
 }
 
-// The lines of a record may be 16 times as long as it, so what is read at once is a sixteenth of what is written.
-fn main() {
+fn main(rt: HostRuntime) {
     let table = word::table::whole();
     let rules = Rules {
         edition: Edition::Flown,
         limit: MOST_FLIPS,
     };
-    let mut buf = io::buffer();
-    let mut out = io::large_buffer();
-    list(&table, rules, &mut buf, &mut out);
+    let mut buf = [0u8; BUFFER_BYTES];
+    let mut out = [0u8; OUTPUT_BYTES];
+    list(rt, &table, rules, &mut buf, &mut out);
 }

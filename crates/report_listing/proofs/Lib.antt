@@ -1,3 +1,6 @@
+pub mod Signs
+pub mod Joining
+pub mod PageFitting
 pub mod Taking
 pub mod Sounding
 pub mod Walking

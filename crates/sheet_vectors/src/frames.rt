@@ -1,5 +1,6 @@
 // Headers and frames read.
 ghost use Rattle.std.specs.Prelude.{◌≡◌, ◌+◌};
+ghost use Rattle.marshalling.specs.declared.format.TheConstants.{VALUES};
 
 use air::WORD_COUNT;
 use header::{Answer, Fields, Header, Read, Rules};
@@ -8,7 +9,7 @@ use marshalling::{format, numbers};
 
 // Puts fields 0 to 13, and answers the place after them.
 fn put_fields(reply: &mut Reply, f: Fields) -> usize
-    ensures* { do ⌜ result ≡ (← (⟦format::VALUES⟧).entry) + 14 ⌝ }
+    ensures { result ≡ VALUES + 14 }
 {
     let values = [
         f.src_id,

@@ -8,9 +8,9 @@ mod sheets;
 mod wides;
 
 // Answers the next record, and says whether there was one.
-fn answer_next() -> bool {
+fn answer_next(rt: HostRuntime) -> bool {
     let mut record = [0u8; format::RECORD_BYTES];
-    let kind = marshalling::read_record(&mut record);
+    let kind = marshalling::read_record(rt, &mut record);
     let mut reply = [0u8; format::REPLY_BYTES];
     match kind {
         format::HEADERS => frames::header_reply(&record, &mut reply),
@@ -23,13 +23,13 @@ fn answer_next() -> bool {
             return false;
         }
     }
-    marshalling::write_reply(kind, &reply)
+    marshalling::write_reply(rt, kind, &reply)
 }
 
 // The records are counted down from a number that no run uses up.
-fn main() {
+fn main(rt: HostRuntime) {
     let mut records = u64::MAX;
-    while records > 0 && answer_next() {
+    while records > 0 && answer_next(rt) {
         records -= 1;
     }
 }

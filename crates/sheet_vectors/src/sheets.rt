@@ -1,5 +1,6 @@
 // Sheets: a frame offered to a made-up sheet, and the numbers of a source on one.
 ghost use Rattle.std.specs.Prelude.{◌≡◌, ◌+◌, ◌<◌, ◌≤◌};
+ghost use Rattle.marshalling.specs.declared.format.TheConstants.{COUNTS_AFTER, LANE, RECORD_BYTES, REPLY_BYTES, SHEETS_HEADER, SIGNED, SOURCE};
 
 use crate::frames;
 use marshalling::format::{Record, Reply};
@@ -8,7 +9,7 @@ use sheet::{Offered, Sheet};
 use source::{Lane, REFUSAL_COUNTS, Source};
 
 fn lane_at(record: &Record, at: usize) -> Lane
-    requires* { do ⌜ at + (← ⟦format::LANE⟧) ≤ (← ⟦format::RECORD_BYTES⟧) ⌝ }
+    requires { at + LANE ≤ RECORD_BYTES }
 {
     Lane {
         frames: numbers::four_at(record, at) as u32,
@@ -22,7 +23,7 @@ fn lane_at(record: &Record, at: usize) -> Lane
 
 // The caller's lane, then the responder's.
 pub fn source_at(record: &Record, at: usize) -> Source
-    requires* { do ⌜ at + (← ⟦format::SOURCE⟧) ≤ (← ⟦format::RECORD_BYTES⟧) ⌝ }
+    requires { at + SOURCE ≤ RECORD_BYTES }
 {
     Source {
         caller: lane_at(record, at),
@@ -44,7 +45,7 @@ fn all_zero(bytes: &[u8]) -> bool {
 
 // Whether a source of the record is all 0.
 fn is_silent(record: &Record, at: usize) -> bool
-    requires* { do ⌜ at + (← ⟦format::SOURCE⟧) ≤ (← ⟦format::RECORD_BYTES⟧) ⌝ }
+    requires { at + SOURCE ≤ RECORD_BYTES }
 {
     all_zero(numbers::part(record, at, at + format::SOURCE))
 }
@@ -52,7 +53,7 @@ fn is_silent(record: &Record, at: usize) -> bool
 // The sheet that starts at a place, which is 0 or behind rules and call sign: its sources, and its counts. A source that is all 0 is that of a
 // new sheet.
 fn sources_of(record: &Record, sheet: usize) -> [Source; 8]
-    requires* { do ⌜ sheet ≤ (← ⟦format::SIGNED⟧) ⌝ }
+    requires { sheet ≤ SIGNED }
 {
     let fresh = sheet::new_sheet();
     let mut sources = fresh.sources;
@@ -70,7 +71,7 @@ fn sources_of(record: &Record, sheet: usize) -> [Source; 8]
 
 // The counts that start at a place.
 pub fn counts_of(record: &Record, counts: usize) -> [u32; REFUSAL_COUNTS]
-    requires* { do ⌜ counts ≤ (← ⟦format::SHEETS_HEADER⟧) ⌝ }
+    requires { counts ≤ SHEETS_HEADER }
 {
     let mut read = [0u32; REFUSAL_COUNTS];
     let mut k = 0;
@@ -82,7 +83,7 @@ pub fn counts_of(record: &Record, counts: usize) -> [u32; REFUSAL_COUNTS]
 }
 
 fn sheet_of(record: &Record, sheet: usize) -> Sheet
-    requires* { do ⌜ sheet ≤ (← ⟦format::SIGNED⟧) ⌝ }
+    requires { sheet ≤ SIGNED }
 {
     let sources = sources_of(record, sheet);
     let refusals = counts_of(record, sheet + format::REFUSALS);
@@ -91,8 +92,8 @@ fn sheet_of(record: &Record, sheet: usize) -> Sheet
 
 // Puts a lane, and answers the place after it. The last counter is 0 where the lane was not heard.
 pub fn put_lane(reply: &mut Reply, at: usize, lane: Lane) -> usize
-    requires* { do ⌜ at + (← ⟦format::LANE⟧) ≤ (← ⟦format::REPLY_BYTES⟧) ⌝ }
-    ensures* { do ⌜ result ≡ at + (← (⟦format::LANE⟧).entry) ⌝ }
+    requires { at + LANE ≤ REPLY_BYTES }
+    ensures { result ≡ at + LANE }
 {
     let next = numbers::put_four(reply, at, lane.frames);
     let next = numbers::put_four(reply, next, lane.repaired);
@@ -115,7 +116,7 @@ fn put_source(reply: &mut Reply, k: usize, source: Source)
 }
 
 pub fn put_counts(reply: &mut Reply, at: usize, counts: [u32; REFUSAL_COUNTS])
-    requires* { do ⌜ at ≤ (← ⟦format::COUNTS_AFTER⟧) ⌝ }
+    requires { at ≤ COUNTS_AFTER }
 {
     let mut next = at;
     let mut k = 0;
