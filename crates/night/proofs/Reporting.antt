@@ -17,7 +17,6 @@ use Rattle.reporting.specs.declared.Told.{Told}
 use Rattle.reporting.specs.Texts.{tally_over}
 use Rattle.reporting.specs.Promises.{Reported}
 use Rattle.reporting.proofs.Telling.{tally_append, tally_none}
-use Rattle.night.specs.declared.Progress.{Progress}
 use Rattle.night.specs.Turns.{AllTold}
 
 pub record Passing (edition : Edition) (s : State) (piece : List ℕ) (start : Tally) (out₀ out : List ℕ) (tally : Tally) (at : ℕ) : Type 0 where

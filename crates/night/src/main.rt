@@ -17,6 +17,9 @@ use reporting::Opened;
 use streams::{Next, after_read, after_write, read_on, turns_left, write};
 use word::table::TABLE_ROWS;
 
+// How much is read at once, and how much is written.
+const BUFFER_BYTES: usize = 65536;
+
 // What a piece's lines leave: the tally, and whether all writes went well.
 #[derive(Clone, Copy)]
 struct Progress {
@@ -26,6 +29,7 @@ struct Progress {
 
 // Writes the lines of all marks of a piece, a buffer at a time.
 fn report_all(
+    rt: HostRuntime,
     table: &[u16; TABLE_ROWS],
     edition: Edition,
     state: State,
@@ -44,7 +48,7 @@ fn report_all(
     loop {
         let told = reporting::put_marks(table, edition, state, piece, at, tally, out);
         let to = told.to;
-        let wrote = write(&out[..to]);
+        let wrote = write(rt, &out[..to]);
         tally = told.tally;
         if !wrote {
             return Progress {
@@ -82,6 +86,7 @@ fn after_stop(read: Next, stop: Stop, wrote: bool) -> Next
 
 // Takes what was read, which may be nothing, and writes the lines of its marks.
 fn take_bits(
+    rt: HostRuntime,
     table: &[u16; TABLE_ROWS],
     edition: Edition,
     state: State,
@@ -97,7 +102,7 @@ fn take_bits(
 {
     let taking = reporting::take_front(state, bits);
     let n = taking.n;
-    let done = report_all(table, edition, state, &bits[..n], tally, out);
+    let done = report_all(rt, table, edition, state, &bits[..n], tally, out);
     let after = taking.state;
     let counted = done.tally;
     let stop = taking.stop;
@@ -112,6 +117,7 @@ fn take_bits(
 
 // Reads once, and takes what was read.
 fn turn(
+    rt: HostRuntime,
     table: &[u16; TABLE_ROWS],
     edition: Edition,
     state: State,
@@ -125,14 +131,14 @@ fn turn(
     requires line_room_in_bounds { line_room ≤ length out.old }
     ensures { Goes edition state tally buf.new result }
 {
-    let filled = read_on(buf, 0);
+    let filled = read_on(rt, buf, 0);
     let end = filled.end;
     let read = filled.next;
-    take_bits(table, edition, state, tally, read, &buf[..end], out)
+    take_bits(rt, table, edition, state, tally, read, &buf[..end], out)
 }
 
 // Writes the last line, after why the search stopped. There is none where it failed.
-fn finish(done: Turned, out: &mut [u8])
+fn finish(rt: HostRuntime, done: Turned, out: &mut [u8])
     requires { 2 * line_room ≤ length out.old }
     ensures { Closing done out.old out.new }
 {
@@ -144,7 +150,7 @@ fn finish(done: Turned, out: &mut [u8])
             let tally = done.tally;
             let why = done.stop;
             let n = reporting::close(done.state.total, tally, why, out);
-            write(&out[..n]);
+            write(rt, &out[..n]);
         }
     }
 }
@@ -152,6 +158,7 @@ fn finish(done: Turned, out: &mut [u8])
 // Searches the input, read by read, up to its end or to why no more is taken. Where a read fails, the lines up to there are written.
 // The turns are counted down from a number that no run uses up: each but the last reads a byte.
 fn search_input(
+    rt: HostRuntime,
     table: &[u16; TABLE_ROWS],
     edition: Edition,
     start: Opened,
@@ -169,7 +176,7 @@ fn search_input(
     let mut tally = start.tally;
     let mut turns = u64::MAX;
     loop {
-        let done = turn(table, edition, state, tally, buf, out);
+        let done = turn(rt, table, edition, state, tally, buf, out);
         let next = done.next;
         turns = turns_left(turns, next);
         if turns == 0 {
@@ -181,24 +188,24 @@ fn search_input(
 }
 
 // The search through standard input under an edition, from the heading on.
-fn run(edition: Edition) {
+fn run(rt: HostRuntime, edition: Edition) {
     let table = word::table::whole();
-    let mut buf = io::large_buffer();
-    let mut out = io::large_buffer();
+    let mut buf = [0u8; BUFFER_BYTES];
+    let mut out = [0u8; BUFFER_BYTES];
     let opened = reporting::open(&mut out);
     let n = opened.to;
-    if write(&out[..n]) {
-        let done = search_input(&table, edition, opened, &mut buf, &mut out);
-        finish(done, &mut out);
+    if write(rt, &out[..n]) {
+        let done = search_input(rt, &table, edition, opened, &mut buf, &mut out);
+        finish(rt, done, &mut out);
     }
 }
 
-fn main() {
-    let asked = options::read();
+fn main(rt: HostRuntime) {
+    let asked = options::read(rt);
     if asked.wrong || asked.strict {
-        options::tell();
+        options::tell(rt);
         return;
     }
     let edition = asked.edition;
-    run(edition);
+    run(rt, edition);
 }

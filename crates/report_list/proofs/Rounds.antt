@@ -1,7 +1,12 @@
 -- A read, and the records of what was read taken: what is left is within what was read, and less than a record where the file is not over. Then the
 -- lines of files that were cut, as many at a time as fit.
 -- Assumes nothing.
-use Rattle.base.specs.Plain.{◌≡◌, refl, sym, ◌∙◌, Bool, List, [], ℕ, ◌+◌, ◌-◌, ◌<◌, ◌≤◌, arith, length, take}
+use mathlib.Core.Path.{◌≡◌, refl, sym, ◌∙◌}
+use mathlib.Core.Bool.{Bool}
+use mathlib.Core.List.{List, []}
+use Prim.Native.Nat.{ℕ, ◌+◌, ◌-◌, ◌<◌, ◌≤◌}
+use native.Mathlib.Omega.{arith}
+use lib.ListN.{length, take}
 use mir.Syntax.{w64}
 use mir.Val.{Fits}
 use Rattle.air.specs.Air.{payload_limit}
@@ -45,14 +50,13 @@ module _ (files : ℕ) (out₀ out : List ℕ) (from : ℕ) (so : Writing files 
   writes_on same = record { same = same ∙ so.same; inside = put.inside }
 
 -- what holds at each file of `read_files`: the buffers keep their lengths, and each file has its byte
-pub record Hearing (files : ℕ) (buf₀ cuts₀ buf cuts room : List ℕ) : Type 0 where
+pub record Hearing (files : ℕ) (buf₀ cuts₀ buf cuts : List ℕ) : Type 0 where
   pub few : files ≤ most_files
   pub room_for : most_files ≤ length cuts₀
   pub input : length buf ≡ length buf₀
   pub bytes : length cuts ≡ length cuts₀
-  pub name : 4096 ≡ length room
 
-module _ (files : ℕ) (buf₀ cuts₀ buf cuts room : List ℕ) (so : Hearing files buf₀ cuts₀ buf cuts room) (file : ℕ) (some : file < files) where
+module _ (files : ℕ) (buf₀ cuts₀ buf cuts : List ℕ) (so : Hearing files buf₀ cuts₀ buf cuts) (file : ℕ) (some : file < files) where
   pub has_byte : file < length cuts
   has_byte = omega (arith, so.few, so.room_for, so.bytes)
 

@@ -2,28 +2,42 @@
 // text is that of `report_listing`. The words after its name are names of files; `-` is standard input, and so is no word at all.
 #![tactic(auto)]
 
-ghost use Rattle.std.specs.Prelude.{◌≡◌, ◌*◌, ◌<◌, ◌≤◌, length};
+ghost use Rattle.std.specs.Prelude.{◌≡◌, ◌+◌, ◌*◌, ◌<◌, ◌≤◌, length};
 ghost use Rattle.word.specs.Repairs.{syndromes};
 ghost use Rattle.air.specs.Air.{payload_limit};
 ghost use Rattle.scaling.specs.Shown.{row_count};
 ghost use Rattle.record.specs.Records.{record_size};
 ghost use Rattle.page_listing.specs.Listing.{page_rules};
+ghost use Rattle.streams.specs.Turns.{ReadOn};
 ghost use Rattle.report_listing.specs.Rooms.{row_room};
 ghost use Rattle.report_list.specs.Files.{most_files};
 
 use air::MOST_FLIPS;
 use base::Edition;
 use header::Rules;
-use libc::{STDERR_FILENO, STDIN_FILENO};
 use record::is_over;
 use report_listing::Pass;
 use report_listing::last::put_cuts;
 use report_listing::rows::put_rows;
-use streams::{after_read, is_done, read_from, turns_left, write};
+use std::env::{Env, FillError};
+use std::io::{ErrorKind, Read, Write};
+use std::{fs, io};
+use streams::{Filled, Next, after_read, is_done, turns_left, write};
 use word::table::TABLE_ROWS;
 
 // The most files: a byte of a buffer for each.
 const MOST_FILES: usize = 65536;
+
+// Room for the longest name that the system opens.
+const NAME_ROOM: usize = 4096;
+
+// What the system says of a longer one.
+const NAME_TOO_LONG: i32 = 36;
+
+// Room for `-` and more.
+const INPUT_ROOM: usize = 2;
+
+const ROOM: usize = 65536;
 
 // What the files so far left, how many bytes of the last one are left, and whether it was read to its end.
 #[derive(Clone, Copy)]
@@ -33,16 +47,69 @@ struct Heard {
     ended: bool,
 }
 
-// Tells of a file why a call failed.
-fn tell_failed(name: &[u8], call: &[u8]) {
-    io::write_all(STDERR_FILENO, name);
-    io::write_all(STDERR_FILENO, b": ");
-    os::fail(call);
+// Tells of a file what failed, and why. Where that fails too, nobody is left to be told.
+fn tell_failed(rt: HostRuntime, name: &[u8], what: &str, why: io::Error) {
+    let mut told = rt.stderr();
+    match told.write_all(name) {
+        Ok(()) => {}
+        Err(_) => {
+            return;
+        }
+    }
+    match writeln!(told, ": {what}: {why}") {
+        Ok(()) => {}
+        Err(_) => {}
+    }
 }
 
-// Reads a file, read by read, and takes its records.
+// Reads once, after the bytes that were kept: what is still coming is seen as far as it has come. A failure is told.
+fn read_from<R: Read>(
+    rt: HostRuntime,
+    from: &mut R,
+    name: &[u8],
+    buf: &mut [u8],
+    kept: usize,
+) -> Filled
+    requires { kept < length buf.old }
+    ensures { ReadOn buf.old kept result }
+{
+    let part = &mut buf[kept..];
+    let got = from.read(part);
+    match got {
+        Ok(n) => {
+            if n == 0 {
+                return Filled {
+                    end: kept,
+                    next: Next::Done,
+                };
+            }
+            let end = kept + n;
+            Filled {
+                end,
+                next: Next::More,
+            }
+        }
+        Err(why) => {
+            tell_failed(rt, name, "read", why);
+            Filled {
+                end: kept,
+                next: Next::Failed,
+            }
+        }
+    }
+}
+
+// Reads an open file, read by read, and takes its records.
 // The turns are counted down from a number that no run uses up: each but the last reads a byte.
-fn read_file(table: &[u16; TABLE_ROWS], rules: Rules, start: Pass, fd: i32, buf: &mut [u8]) -> Heard
+fn read_file<R: Read>(
+    rt: HostRuntime,
+    table: &[u16; TABLE_ROWS],
+    rules: Rules,
+    start: Pass,
+    name: &[u8],
+    from: &mut R,
+    buf: &mut [u8],
+) -> Heard
     requires table_value { table.now ≡ syndromes }
     requires rules_value { rules ≡ page_rules }
     requires payload_limit_in_bounds { record_size payload_limit ≤ length buf.old }
@@ -52,7 +119,7 @@ fn read_file(table: &[u16; TABLE_ROWS], rules: Rules, start: Pass, fd: i32, buf:
     let mut ended = false;
     let mut turns = u64::MAX;
     while turns > 0 {
-        let filled = read_from(fd, buf, kept);
+        let filled = read_from(rt, from, name, buf, kept);
         let end = filled.end;
         let taken = report_listing::take_piece(table, rules, pass, buf, end);
         pass = taken.pass;
@@ -70,28 +137,19 @@ fn read_file(table: &[u16; TABLE_ROWS], rules: Rules, start: Pass, fd: i32, buf:
     }
 }
 
-// Reads an open file, and tells where that fails.
-fn hear(
-    table: &[u16; TABLE_ROWS],
-    rules: Rules,
-    start: Pass,
-    name: &[u8],
-    fd: i32,
-    buf: &mut [u8],
-) -> Heard
-    requires table_value { table.now ≡ syndromes }
-    requires rules_value { rules ≡ page_rules }
-    requires payload_limit_in_bounds { record_size payload_limit ≤ length buf.old }
-{
-    let heard = read_file(table, rules, start, fd, buf);
-    if !heard.ended {
-        tell_failed(name, b"read");
+// What there is after a file that could not be opened, which is told.
+fn unopened(rt: HostRuntime, start: Pass, name: &[u8], why: io::Error) -> Heard {
+    tell_failed(rt, name, "open", why);
+    Heard {
+        pass: start,
+        left: 0,
+        ended: false,
     }
-    heard
 }
 
-// Opens a file, reads it, and closes it.
+// Opens a file, reads it, and closes it. A name that is no UTF-8 names no file that can be opened.
 fn hear_file(
+    rt: HostRuntime,
     table: &[u16; TABLE_ROWS],
     rules: Rules,
     start: Pass,
@@ -102,22 +160,25 @@ fn hear_file(
     requires rules_value { rules ≡ page_rules }
     requires payload_limit_in_bounds { record_size payload_limit ≤ length buf.old }
 {
-    let fd = os::open_read(name);
-    if fd < 0 {
-        tell_failed(name, b"open");
-        return Heard {
-            pass: start,
-            left: 0,
-            ended: false,
-        };
+    let path = match str::from_utf8(name) {
+        Ok(path) => path,
+        Err(_) => {
+            return unopened(rt, start, name, io::Error::from(ErrorKind::InvalidFilename));
+        }
+    };
+    let opened = fs::open(&rt, path);
+    match opened {
+        Ok(file) => {
+            let mut file = file;
+            read_file(rt, table, rules, start, name, &mut file, buf)
+        }
+        Err(why) => unopened(rt, start, name, why),
     }
-    let heard = hear(table, rules, start, name, fd, buf);
-    libc::close(fd);
-    heard
 }
 
 // Reads standard input; where it was read before, there is nothing more of it, whatever a cut left.
 fn hear_input(
+    rt: HostRuntime,
     table: &[u16; TABLE_ROWS],
     rules: Rules,
     start: Pass,
@@ -129,7 +190,8 @@ fn hear_input(
     requires payload_limit_in_bounds { record_size payload_limit ≤ length buf.old }
 {
     if fresh {
-        return hear(table, rules, start, b"standard input", STDIN_FILENO, buf);
+        let mut input = rt.stdin();
+        return read_file(rt, table, rules, start, b"standard input", &mut input, buf);
     }
     Heard {
         pass: start,
@@ -138,28 +200,48 @@ fn hear_input(
     }
 }
 
-// Whether a name is `-`, standard input.
-fn is_input(name: &[u8]) -> bool {
-    if name.len() != 1 {
-        return false;
+// Whether a word is `-`, standard input, as is no word at all.
+fn names_input(rt: HostRuntime, word: usize) -> bool {
+    let mut room = [0u8; INPUT_ROOM];
+    match rt.arg(word, &mut room) {
+        Ok(n) => n == 1 && room[0] == b'-',
+        Err(FillError::NotPresent) => true,
+        Err(FillError::TooLong) => false,
     }
-    name[0] == b'-'
 }
 
-// Whether standard input was not read yet, after a file of this name.
-fn still_fresh(fresh: bool, name: &[u8]) -> bool {
-    if is_input(name) {
-        return false;
-    }
-    fresh
-}
-
-// Reads what has this name.
-fn hear_named(
+// Reads the file that a word names.
+fn hear_word(
+    rt: HostRuntime,
     table: &[u16; TABLE_ROWS],
     rules: Rules,
     start: Pass,
-    name: &[u8],
+    word: usize,
+    buf: &mut [u8],
+) -> Heard
+    requires table_value { table.now ≡ syndromes }
+    requires rules_value { rules ≡ page_rules }
+    requires payload_limit_in_bounds { record_size payload_limit ≤ length buf.old }
+{
+    let mut room = [0u8; NAME_ROOM];
+    match rt.arg(word, &mut room) {
+        Ok(n) => hear_file(rt, table, rules, start, &room[..n], buf),
+        Err(_) => unopened(
+            rt,
+            start,
+            b"a name of more than 4,096 bytes",
+            io::Error::from_raw_os_error(NAME_TOO_LONG),
+        ),
+    }
+}
+
+// Reads what a word names, standard input or a file.
+fn hear_named(
+    rt: HostRuntime,
+    table: &[u16; TABLE_ROWS],
+    rules: Rules,
+    start: Pass,
+    word: usize,
     fresh: bool,
     buf: &mut [u8],
 ) -> Heard
@@ -167,31 +249,26 @@ fn hear_named(
     requires rules_value { rules ≡ page_rules }
     requires payload_limit_in_bounds { record_size payload_limit ≤ length buf.old }
 {
-    if is_input(name) {
-        return hear_input(table, rules, start, fresh, buf);
+    if names_input(rt, word) {
+        return hear_input(rt, table, rules, start, fresh, buf);
     }
-    hear_file(table, rules, start, name, buf)
+    hear_word(rt, table, rules, start, word, buf)
 }
 
-// The name of a file, by its number from 0: a word after the program's name, or `-` where there is none. It goes to the front of `room`.
-fn put_name(words: usize, file: usize, room: &mut [u8]) -> usize
-    requires file_lt_most_files { file < most_files }
-    requires room_nonzero { 0 < length room.old }
-    ensures { result ≤ length room.new }
-{
-    if words < 2 {
-        room[0] = b'-';
-        return 1;
+// Whether standard input was not read yet, after what a word names.
+fn still_fresh(rt: HostRuntime, fresh: bool, word: usize) -> bool {
+    if names_input(rt, word) {
+        return false;
     }
-    os::arg(file + 1, room)
+    fresh
 }
 
 // Reads all files in order, up to one that cannot be read.
 fn read_files(
+    rt: HostRuntime,
     table: &[u16; TABLE_ROWS],
     rules: Rules,
     start: Pass,
-    words: usize,
     files: usize,
     buf: &mut [u8],
     cuts: &mut [u8],
@@ -202,15 +279,12 @@ fn read_files(
     requires payload_limit_in_bounds { record_size payload_limit ≤ length buf.old }
     requires most_files_in_bounds { most_files ≤ length cuts.old }
 {
-    let mut room = io::buffer();
     let mut pass = start;
     let mut fresh = true;
     let mut file = 0;
     while file < files {
-        let n = put_name(words, file, &mut room);
-        let name = &room[..n];
-        let heard = hear_named(table, rules, pass, name, fresh, buf);
-        fresh = still_fresh(fresh, name);
+        let heard = hear_named(rt, table, rules, pass, file + 1, fresh, buf);
+        fresh = still_fresh(rt, fresh, file + 1);
         if !heard.ended {
             return heard;
         }
@@ -226,7 +300,7 @@ fn read_files(
 }
 
 // Writes the lines of the files that were cut, and answers whether that went well.
-fn write_cuts(out: &mut [u8], cuts: &[u8], files: usize) -> bool
+fn write_cuts(rt: HostRuntime, out: &mut [u8], cuts: &[u8], files: usize) -> bool
     requires files_in_bounds { files ≤ length cuts.now }
     requires row_room_in_bounds { row_count * row_room ≤ length out.old }
 {
@@ -234,7 +308,7 @@ fn write_cuts(out: &mut [u8], cuts: &[u8], files: usize) -> bool
     while from < files {
         let put = put_cuts(out, cuts, from, files);
         let to = put.to;
-        if !write(&out[..to]) {
+        if !write(rt, &out[..to]) {
             return false;
         }
         from = put.next;
@@ -243,27 +317,27 @@ fn write_cuts(out: &mut [u8], cuts: &[u8], files: usize) -> bool
 }
 
 // Writes all that follows the title.
-fn tell(pass: Pass, files: usize, cuts: &[u8], out: &mut [u8])
+fn tell(rt: HostRuntime, pass: Pass, files: usize, cuts: &[u8], out: &mut [u8])
     requires files_in_bounds { files ≤ length cuts.now }
     requires row_room_in_bounds { row_count * row_room ≤ length out.old }
 {
     let report = pass.report;
     let n = put_rows(out, report);
-    if !write(&out[..n]) {
+    if !write(rt, &out[..n]) {
         return;
     }
-    if !write_cuts(out, cuts, files) {
+    if !write_cuts(rt, out, cuts, files) {
         return;
     }
     let m = report_listing::last::close(pass, out);
-    write(&out[..m]);
+    write(rt, &out[..m]);
 }
 
 // Writes the title, and reads all files.
 fn hear_all(
+    rt: HostRuntime,
     table: &[u16; TABLE_ROWS],
     rules: Rules,
-    words: usize,
     files: usize,
     buf: &mut [u8],
     out: &mut [u8],
@@ -279,21 +353,21 @@ fn hear_all(
     let opened = report_listing::open(out);
     let title = opened.to;
     let start = opened.pass;
-    if !write(&out[..title]) {
+    if !write(rt, &out[..title]) {
         return Heard {
             pass: start,
             left: 0,
             ended: false,
         };
     }
-    read_files(table, rules, start, words, files, buf, cuts)
+    read_files(rt, table, rules, start, files, buf, cuts)
 }
 
 // The report over all files. Where one cannot be opened or read, the title alone is written.
 fn list(
+    rt: HostRuntime,
     table: &[u16; TABLE_ROWS],
     rules: Rules,
-    words: usize,
     files: usize,
     buf: &mut [u8],
     out: &mut [u8],
@@ -306,14 +380,14 @@ fn list(
     requires row_room_in_bounds { row_count * row_room ≤ length out.old }
     requires most_files_in_bounds { most_files ≤ length cuts.old }
 {
-    let heard = hear_all(table, rules, words, files, buf, out, cuts);
+    let heard = hear_all(rt, table, rules, files, buf, out, cuts);
     if heard.ended {
         let pass = heard.pass;
-        tell(pass, files, cuts, out);
+        tell(rt, pass, files, cuts, out);
     }
 }
 
-fn run(words: usize, files: usize)
+fn run(rt: HostRuntime, files: usize)
     requires { files ≤ most_files }
 {
     let table = word::table::whole();
@@ -321,22 +395,36 @@ fn run(words: usize, files: usize)
         edition: Edition::Flown,
         limit: MOST_FLIPS,
     };
-    let mut buf = io::large_buffer();
-    let mut out = io::large_buffer();
-    let mut cuts = io::large_buffer();
-    list(&table, rules, words, files, &mut buf, &mut out, &mut cuts);
+    let mut buf = [0u8; ROOM];
+    let mut out = [0u8; ROOM];
+    let mut cuts = [0u8; MOST_FILES];
+    list(rt, &table, rules, files, &mut buf, &mut out, &mut cuts);
 }
 
-fn main() {
-    let words = os::arg_count();
-    if words < 2 {
-        run(words, 1);
+// How many words there are after the program's name, up to one more than the most files.
+fn word_count(rt: HostRuntime) -> usize
+    ensures { result ≤ most_files + 1 }
+{
+    for i in 0..MOST_FILES + 1 {
+        match rt.arg(i + 1, &mut []) {
+            Err(FillError::NotPresent) => {
+                return i;
+            }
+            Err(FillError::TooLong) | Ok(_) => {}
+        }
+    }
+    MOST_FILES + 1
+}
+
+fn main(rt: HostRuntime) {
+    let words = word_count(rt);
+    if words == 0 {
+        run(rt, 1);
         return;
     }
-    let files = words - 1;
-    if MOST_FILES < files {
-        io::write_all(STDERR_FILENO, b"there are more than 65,536 files\n");
+    if MOST_FILES < words {
+        streams::say(rt, "there are more than 65,536 files");
         return;
     }
-    run(words, files);
+    run(rt, words);
 }

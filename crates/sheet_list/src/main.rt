@@ -16,9 +16,12 @@ use record::is_over;
 use streams::{after_read, is_done, read_on, turns_left, write};
 use word::table::TABLE_ROWS;
 
+// How much is read at once, and how much is written.
+const BUFFER_BYTES: usize = 65536;
+
 // Counts the input, read by read, and writes the sheet at its end. Where a read fails, no sheet is written.
 // The turns are counted down from a number that no run uses up: each but the last reads a byte.
-fn list(table: &[u16; TABLE_ROWS], rules: Rules, buf: &mut [u8], out: &mut [u8])
+fn list(rt: HostRuntime, table: &[u16; TABLE_ROWS], rules: Rules, buf: &mut [u8], out: &mut [u8])
     requires table_value { table.now ≡ syndromes }
     requires rules_value { rules ≡ listed_rules rules.edition }
     requires payload_limit_in_bounds { record_size payload_limit ≤ length buf.old }
@@ -26,7 +29,7 @@ fn list(table: &[u16; TABLE_ROWS], rules: Rules, buf: &mut [u8], out: &mut [u8])
 {
     let opened = sheet_listing::open(out);
     let title = opened.to;
-    if !write(&out[..title]) {
+    if !write(rt, &out[..title]) {
         return;
     }
     let mut totals = opened.sheet;
@@ -35,7 +38,7 @@ fn list(table: &[u16; TABLE_ROWS], rules: Rules, buf: &mut [u8], out: &mut [u8])
     let mut ended = false;
     let mut turns = u64::MAX;
     while turns > 0 {
-        let filled = read_on(buf, kept);
+        let filled = read_on(rt, buf, kept);
         let end = filled.end;
         let counted = sheet_listing::count_piece(table, rules, totals, tally, buf, end);
         totals = counted.sheet;
@@ -50,28 +53,28 @@ fn list(table: &[u16; TABLE_ROWS], rules: Rules, buf: &mut [u8], out: &mut [u8])
     if ended {
         let edition = rules.edition;
         let n = sheet_listing::close(edition, totals, tally, kept, out);
-        write(&out[..n]);
+        write(rt, &out[..n]);
     }
 }
 
 // The sheet of standard input under an edition.
-fn run(edition: Edition) {
+fn run(rt: HostRuntime, edition: Edition) {
     let table = word::table::whole();
     let rules = Rules {
         edition,
         limit: MOST_FLIPS,
     };
-    let mut buf = io::large_buffer();
-    let mut out = io::large_buffer();
-    list(&table, rules, &mut buf, &mut out);
+    let mut buf = [0u8; BUFFER_BYTES];
+    let mut out = [0u8; BUFFER_BYTES];
+    list(rt, &table, rules, &mut buf, &mut out);
 }
 
-fn main() {
-    let asked = options::read();
+fn main(rt: HostRuntime) {
+    let asked = options::read(rt);
     if asked.wrong || asked.strict {
-        options::tell();
+        options::tell(rt);
         return;
     }
     let edition = asked.edition;
-    run(edition);
+    run(rt, edition);
 }

@@ -1,0 +1,21 @@
+use borrow.Author.Rules.{rules}
+use Rattle.night.proofs.Reporting.{all_starts, told_size, all_failed, all_over, all_less, all_goes_on}
+use Rattle.night.proofs.report_all.Goals as goal
+
+pub loop-rt-init : goal.loop-rt-init
+loop-rt-init c = search (rules, all_starts)
+
+pub slice_bounds-write-end-in-loop-rt : goal.slice_bounds-write-end-in-loop-rt
+slice_bounds-write-end-in-loop-rt c = search (rules, told_size)
+
+pub returns-then-not-wrote : goal.returns-then-not-wrote
+returns-then-not-wrote c = search (rules, all_failed)
+
+pub returns-then-told : goal.returns-then-told
+returns-then-told c = search (rules, all_over)
+
+pub loop-rt-smaller : goal.loop-rt-smaller
+loop-rt-smaller c = search (rules, all_less)
+
+pub loop-rt-preserved : goal.loop-rt-preserved
+loop-rt-preserved c = search (rules, all_goes_on)

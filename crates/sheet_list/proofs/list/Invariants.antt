@@ -1,0 +1,12 @@
+-- `sheet_list::list` is safe and ends. The measure is the number of turns that are left. Invariant: the buffer keeps its length, and there is room to read on.
+-- Assumes nothing.
+use Rattle.air.specs.Air.{payload_limit}
+use Rattle.record.specs.Records.{record_size}
+use Rattle.streams.proofs.Rounds.{Ready}
+use Rattle.sheet_list.proofs.list.Given as goal
+
+abbrev pub invariant-loop-turns : goal.invariant-loop-turns
+invariant-loop-turns l = Ready (record_size payload_limit) l.initial.buf l.out l.buf l.out l.kept l.turns
+
+abbrev pub decreases-loop-turns : goal.decreases-loop-turns
+decreases-loop-turns l = l.turns
