@@ -1,6 +1,7 @@
 """Running a built program to its end."""
 
 import contextlib
+import errno
 import os
 import select
 import signal
@@ -11,6 +12,8 @@ from messages import Failed, Unusable, reason, without_number
 
 # the most bytes that are taken from a program at once
 PIECE = 65536
+# what a program tells that writes to nobody, where it is not ended by the signal for that
+TO_NOBODY = f"write: {os.strerror(errno.EPIPE)}"
 
 
 class Lines:
@@ -40,7 +43,7 @@ def run(words, name, hear=None, take=None, watch=None, **files):
             raise Unusable(f"{name} cannot be run: {reason(error)}") from error
         told = listen(process, hear, take, watch)
         status = process.wait()
-    if status == -signal.SIGPIPE:
+    if status == -signal.SIGPIPE or TO_NOBODY in told:
         raise BrokenPipeError
     if status < 0:
         raise Failed(f"{name} was ended by {signal.Signals(-status).name}")

@@ -1,7 +1,8 @@
-"""The built program `list` behind the front end, and the independent program beside it. They need target/ as `rt ci` leaves it."""
+"""The built program `list` behind the front end, and the independent program beside it. They need the programs as `rt ci` leaves them."""
 
 import os
 import re
+import signal
 import subprocess
 import tempfile
 import unittest
@@ -126,6 +127,17 @@ class Listings(unittest.TestCase):
             self.assertEqual(run("list", PASS, PASS, stdout=full)[0::2], (1, "nolbreva: write: No space left on device\n"))
         for words in (["list", PASS], ["list", "--names", PASS]):
             self.assertEqual(run(*words, first=CLOSED), (1, b"", "nolbreva: write: Bad file descriptor\n"))
+
+    def test_a_reader_that_goes_away(self):
+        with tempfile.NamedTemporaryFile() as file:
+            # its listing is longer than what a pipe holds
+            file.write(season("1", "5000", "--clean", "--payload", "0"))
+            file.flush()
+            process = subprocess.Popen([NOLBREVA, "list", file.name], stdout=subprocess.PIPE, stderr=subprocess.PIPE, cwd=TOP)
+            with process.stderr:
+                process.stdout.readline()
+                process.stdout.close()
+                self.assertEqual((process.stderr.read(), process.wait()), (b"", -signal.SIGPIPE))
 
     def test_failed_reads(self):
         told = "nolbreva: standard input: read: Bad file descriptor\n"

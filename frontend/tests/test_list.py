@@ -124,6 +124,10 @@ class Lists(Repository):
         process.stdout.close()
         self.assertEqual(process.wait(), -13)
 
+    def test_a_program_that_tells_of_a_reader_that_went_away(self):
+        self.write("told", "write: Broken pipe (os error 32)\n")
+        self.assertEqual(self.listed("one", "two"), (-13, "sheet \n1\n", ""))
+
     def test_standard_output_closed(self):
         told = self.listed("--names", "one", first=["sh", "-c", 'exec "$@" >&-', "sh"])
         self.assertEqual(told, (1, "", "nolbreva: write: Bad file descriptor\n"))

@@ -61,6 +61,11 @@ use Rattle.record.specs.Walks.{over_of}
 use Rattle.record_writer.specs.Writing.{after_record, RecordWritten}
 use Rattle.record_writer.specs.LongPayload.{whole_of}
 use Rattle.page.specs.declared.PageAnswer.{PageAnswer}
+use Rattle.report.specs.declared.Report.{Report}
+use Rattle.report.specs.declared.Added.{Added}
+use Rattle.report.specs.declared.RowReport.{RowReport}
+use Rattle.report.specs.declared.Mean.{Mean}
+use Rattle.report.specs.Adding.{fresh_report, added_of, row_report_of, mean_of}
 use Rattle.scaling.specs.declared.Scaling.{Scaling}
 use Rattle.scaling.specs.declared.ShownAnswer.{ShownAnswer}
 use Rattle.page.specs.Rows.{PageWritten}
@@ -307,3 +312,15 @@ close_one reader state r s = one
 
 pub read_mark_one : (edition : Edition) (mark : Mark) (r s : Read) → r ≡ mark_read edition mark → s ≡ mark_read edition mark → r ≡ s
 read_mark_one edition mark r s = one
+
+pub new_report_one : (r s : Report) → r ≡ fresh_report → s ≡ fresh_report → r ≡ s
+new_report_one r s = one
+
+pub add_page_one : (report : Report) (page : List ℤ) (r s : Added) → r ≡ added_of report page → s ≡ added_of report page → r ≡ s
+add_page_one report page r s = one
+
+pub row_of_one : (report : Report) (row : ℕ) (r s : RowReport) → r ≡ row_report_of report row → s ≡ row_report_of report row → r ≡ s
+row_of_one report row r s = one
+
+pub mean_of_one : (report : Report) (row : ℕ) (r s : Mean) → r ≡ mean_of report row → s ≡ mean_of report row → r ≡ s
+mean_of_one report row r s = one
