@@ -1,5 +1,6 @@
 """The command `report`: one report over the power pages of all files, as the program writes it, or its lines as rows for a database."""
 
+import contextlib
 import json
 import math
 import os
@@ -86,15 +87,40 @@ def report(words, files, form=None):
         table.begin()
         taken = rows.Taken(table, table.row)
 
-    def hear(line):
-        if not line.startswith("write: "):
-            tell(line)
+    with contextlib.ExitStack() as ends:
+        opened = {name: opened_by(name, ends) for name in set(files) if not is_utf8(name)}
+        given = [f"/dev/fd/{opened[name]}" if name in opened else name for name in files]
+        names = {f"/dev/fd/{descriptor}": name for name, descriptor in opened.items()}
 
-    status, told = run([*words, *files], PROGRAM, hear=hear, take=taken.take if taken else None, pass_fds=descriptors(files))
+        def hear(line):
+            if not line.startswith("write: "):
+                path, colon, rest = line.partition(": ")
+                tell(f"{names.get(path, path)}{colon}{rest}")
+
+        status, told = run([*words, *given], PROGRAM, hear=hear, take=taken.take if taken else None, pass_fds=descriptors(given))
     went_well = listing.went_well(status, told, PROGRAM) and not any(UNREAD.match(line) for line in told)
     if taken:
         taken.end()
     return DONE if went_well else FAILED
+
+
+def is_utf8(name):
+    """Whether the program can open a file by this name: it takes names in UTF-8 alone."""
+    try:
+        os.fsencode(name).decode()
+    except UnicodeDecodeError:
+        return False
+    return True
+
+
+def opened_by(name, ends):
+    """The descriptor of a file with another name: the program is handed that in its place."""
+    try:
+        descriptor = os.open(name, os.O_RDONLY | os.O_NOCTTY)
+    except OSError as error:
+        raise Unusable(f"{name}: {reason(error)}") from error
+    ends.callback(os.close, descriptor)
+    return descriptor
 
 
 def descriptors(files):

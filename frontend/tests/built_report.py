@@ -10,7 +10,7 @@ import subprocess
 import tempfile
 import unittest
 
-from tests.built_list import CLOSED, INDEPENDENT, read, run, season
+from tests.built_list import CLOSED, INDEPENDENT, NOLBREVA, read, run, season
 from tests.repository import TOP
 from tests.test_report import written_again
 
@@ -122,6 +122,18 @@ class Reports(unittest.TestCase):
             status, out, told = run("report", *files)
             self.assertEqual((status, out), (1, TITLE))
             self.assertRegex(told, r"\Anolbreva: .*Input/output error\n\Z")
+
+    def test_a_name_that_is_no_utf8(self):
+        with tempfile.TemporaryDirectory() as room:
+            name = os.path.join(os.fsencode(room), b"pass\xe9")
+            os.symlink(os.path.join(TOP, ONE), name)
+            self.assertEqual(run("report", name, ONE, name), run("report", ONE, ONE, ONE))
+            # what goes wrong with such a file is told by its name
+            unread = os.path.join(os.fsencode(room), b"memory\xe9")
+            os.symlink("/proc/self/mem", unread)
+            done = subprocess.run([NOLBREVA, "report", unread], stdin=subprocess.DEVNULL, capture_output=True, cwd=TOP)
+            told = b"nolbreva: " + unread + b": read: Input/output error\n"
+            self.assertEqual((done.returncode, done.stdout, done.stderr), (1, TITLE, told))
 
     def test_replays(self):
         for words, said in (
