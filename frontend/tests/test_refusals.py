@@ -9,7 +9,7 @@ import refusals
 from messages import Unusable
 from tests.repository import TOP
 
-CONSTANT = re.compile(r'^// [^"\n]*"([^"\n]+)"[^"\n]*\npub const \w+: u8 = (\d+);', re.MULTILINE)
+REASON = re.compile(r'^    // [^"\n]*"([^"\n]+)"[^"\n]*\n    \w+ = (\d+),', re.MULTILINE)
 
 
 def read(*names):
@@ -21,11 +21,11 @@ class Table(unittest.TestCase):
     def setUp(self):
         self.rows = refusals.read(TOP)
 
-    def test_it_has_the_constants_of_base_and_their_words(self):
+    def test_it_has_the_reasons_of_base_and_their_words(self):
         source = read("crates", "base", "src", "lib.rt")
-        constants = {int(number): words for words, number in CONSTANT.findall(source)}
-        self.assertEqual(len(constants), len(re.findall(r"pub const \w+: u8", source)))
-        self.assertEqual({number: row.when for number, row in self.rows.items()}, constants)
+        reasons = {int(number): words for words, number in REASON.findall(source)}
+        self.assertEqual(len(reasons), len(re.findall(r"^    \w+ = \d+,", source, re.MULTILINE)))
+        self.assertEqual({number: row.when for number, row in self.rows.items()}, reasons)
 
     def test_each_number_has_one_row(self):
         numbers = [int(number) for number in re.findall(r"^\| (\d+) \|", read("docs", "REFUSALS.md"), re.MULTILINE)]

@@ -1,13 +1,15 @@
 -- What the answer of `repair_words` says: the lowest word beyond repair, or the valid words and their flip patterns.
 -- Assumes nothing.
-use mathlib.Core.Path.{◌≡◌, refl, ap, ◌∙◌}
+use mathlib.Core.Path.{◌≡◌, refl, sym, ap, ◌∙◌}
 use mathlib.Core.Logic.{⊎_elim}
-use mathlib.Core.List.{List}
+use mathlib.Core.List.{List, []}
+use mathlib.Core.Bool.{Bool, true, false, true≢false}
+use Rattle.std.specs.Prelude.{Result, Ok, Err}
 use Prim.Native.Nat.{ℕ, ◌<◌, ◌≤◌, zero-le}
 use native.Mathlib.Omega.{arith}
 use lib.Count.{ones_in}
 use lib.Dec.{lit<}
-use lib.ListN.{length, get_or, replicate}
+use lib.ListN.{length, get_or}
 use borrow.Author.Tests.{lt-ltb, le-ltb}
 use Rattle.base.proofs.Tests.{lt_or_ge}
 use Rattle.base.proofs.Lowest.{lowest_is}
@@ -17,7 +19,28 @@ use Rattle.word.specs.Repairs.{is_beyond, word_of, pattern_of, radius}
 use Rattle.word.proofs.Answer.{repaired_lt, repair_few, pattern_lt}
 use Rattle.air.specs.declared.RepairedWords.{RepairedWords}
 use Rattle.air.specs.Air.{word_count}
-use Rattle.air.specs.WordRepairs.{repair_at, first_beyond, repaired_of, patterns_in, flip_total, flips_in, repair_words_of}
+use Rattle.air.specs.WordRepairs.{repair_at, first_beyond, repaired_of, patterns_in, flip_total, flips_in, all_repaired, stopped_at, repair_words_of}
+
+-- the parts of an answer: the lowest word beyond repair, 14 where there is none; whether there is one; and what is repaired
+abbrev place_in : Result RepairedWords ℕ → ℕ
+place_in (Ok m) = word_count
+place_in (Err place) = place
+
+abbrev stops_in : Result RepairedWords ℕ → Bool
+stops_in (Ok m) = false
+stops_in (Err place) = true
+
+abbrev words_in : Result RepairedWords ℕ → List ℕ
+words_in (Ok m) = m.words
+words_in (Err place) = []
+
+abbrev patterns_of : Result RepairedWords ℕ → List ℕ
+patterns_of (Ok m) = m.patterns
+patterns_of (Err place) = []
+
+abbrev flips_of : Result RepairedWords ℕ → ℕ
+flips_of (Ok m) = m.flips
+flips_of (Err place) = 0
 
 module _ (words : List ℕ) where
   pub beyond_le : first_beyond words ≤ word_count
@@ -45,18 +68,27 @@ module _ (words : List ℕ) where
   unfolding flips_in
   flips_are_ones = refl
 
-  stopped : first_beyond words < word_count → repair_words_of words ≡ record { words = replicate word_count 0; patterns = replicate word_count 0; flips = 0; beyond = first_beyond words }
+  stopped : first_beyond words < word_count → repair_words_of words ≡ stopped_at (first_beyond words)
   unfolding repair_words_of
   stopped h = rw (lt-ltb (first_beyond words) word_count h)
 
-  whole : word_count ≤ first_beyond words → repair_words_of words ≡ record { words = repaired_of words; patterns = patterns_in words; flips = flips_in words; beyond = word_count }
+  whole : word_count ≤ first_beyond words → repair_words_of words ≡ all_repaired (record { words = repaired_of words; patterns = patterns_in words; flips = flips_in words })
   unfolding repair_words_of
   whole h = rw (le-ltb (first_beyond words) word_count h)
 
-  pub told_beyond : (m : RepairedWords) → m ≡ repair_words_of words → m.beyond ≡ first_beyond words
-  told_beyond m is =
-      ⊎_elim (λ (h : first_beyond words < word_count). ap (λ (x : RepairedWords). x.beyond) (is ∙ stopped h))
-      (λ (h : word_count ≤ first_beyond words). ap (λ (x : RepairedWords). x.beyond) (is ∙ whole h) ∙ omega (arith, beyond_le))
+  told_place : (r : Result RepairedWords ℕ) → r ≡ repair_words_of words → place_in r ≡ first_beyond words
+  told_place r is =
+      ⊎_elim (λ (h : first_beyond words < word_count). ap place_in (is ∙ stopped h))
+      (λ (h : word_count ≤ first_beyond words). ap place_in (is ∙ whole h) ∙ omega (arith, beyond_le))
+      (lt_or_ge (first_beyond words) word_count)
+
+  pub told_beyond : (place : ℕ) → stopped_at place ≡ repair_words_of words → place ≡ first_beyond words
+  told_beyond place is = told_place (stopped_at place) is
+
+  pub told_inside : (place : ℕ) → stopped_at place ≡ repair_words_of words → place < word_count
+  told_inside place is =
+      ⊎_elim (λ (h : first_beyond words < word_count). rw (told_beyond place is) h)
+      (λ (h : word_count ≤ first_beyond words). absurd (true≢false (ap stops_in (is ∙ whole h))))
       (lt_or_ge (first_beyond words) word_count)
 
   -- where no word is beyond repair, all are repaired
@@ -66,12 +98,8 @@ module _ (words : List ℕ) where
     pub patterned : m.patterns ≡ patterns_in words
     pub counted : m.flips ≡ flips_in words
 
-  pub told_all : (m : RepairedWords) → m ≡ repair_words_of words → word_count ≤ m.beyond → AllRepaired m
-  told_all m is h =
-      let none : word_count ≤ first_beyond words = rw (told_beyond m is) at h in
-      record {
-        none_beyond = omega (arith, beyond_le);
-        all = ap (λ (x : RepairedWords). x.words) (is ∙ whole none);
-        patterned = ap (λ (x : RepairedWords). x.patterns) (is ∙ whole none);
-        counted = ap (λ (x : RepairedWords). x.flips) (is ∙ whole none);
-      }
+  pub told_all : (m : RepairedWords) → all_repaired m ≡ repair_words_of words → AllRepaired m
+  told_all m is =
+      let none : word_count ≡ first_beyond words = told_place (all_repaired m) is in
+      let so = is ∙ whole (omega arith) in
+      record { none_beyond = sym none; all = ap words_in so; patterned = ap patterns_of so; counted = ap flips_of so }

@@ -11,10 +11,10 @@ use Rattle.base.specs.Lists.{tabulate, lowest}
 use Rattle.base.proofs.Lowest.{Passed, starts, goes_on, stops, ends}
 use Rattle.base.proofs.Fill.{Filled, fill_starts, fill_goes_on, fill_whole}
 use Rattle.word.specs.declared.Repaired.{Repaired}
-use Rattle.word.specs.declared.Repaired.TheVariants.{Word, Beyond}
-use Rattle.word.specs.Repairs.{is_beyond, word_of, pattern_of}
+use Rattle.std.specs.Prelude.{Option, Some}
+use Rattle.word.specs.Repairs.{beyond, is_beyond, word_of, pattern_of}
 use Rattle.air.specs.Air.{word_count}
-use Rattle.air.specs.WordRepairs.{repair_at, first_beyond, repaired_of, patterns_in, flips_in, flip_total, repair_words_of}
+use Rattle.air.specs.WordRepairs.{repair_at, first_beyond, repaired_of, patterns_in, flips_in, flip_total, all_repaired, stopped_at, repair_words_of}
 
 module _ (words : List ℕ) where
   abbrev beyond_at : ℕ → Bool
@@ -40,28 +40,27 @@ module _ (words : List ℕ) where
   }
 
   module _ (j : ℕ) (repaired patterns : List ℕ) (so : Repairing j repaired patterns) where
-    module _ (r : Repaired) (v e : ℕ) (h : j < word_count) (is : r ≡ repair_at words j) (found : r ≡ Word v e) where
-      here : repair_at words j ≡ Word v e
+    module _ (answer : Option Repaired) (r : Repaired) (h : j < word_count) (is : answer ≡ repair_at words j) (found : answer ≡ Some r) where
+      here : repair_at words j ≡ Some r
       here = sym is ∙ found
 
-      pattern_is : e ≡ pattern_at j
+      pattern_is : r.flips ≡ pattern_at j
       pattern_is = sym (ap pattern_of here)
 
-      pub repairs_go_on : Repairing (j + 1) (set repaired j v) (set patterns j e)
+      pub repairs_go_on : Repairing (j + 1) (set repaired j r.word) (set patterns j r.flips)
       repairs_go_on = record {
         passed = goes_on word_count beyond_at j so.passed h (ap is_beyond here);
-        filled = fill_goes_on word_repaired word_count (replicate word_count 0) j repaired so.filled v h (sym (ap word_of here));
-        patterned = fill_goes_on pattern_at word_count (replicate word_count 0) j patterns so.patterned e h pattern_is;
+        filled = fill_goes_on word_repaired word_count (replicate word_count 0) j repaired so.filled r.word h (sym (ap word_of here));
+        patterned = fill_goes_on pattern_at word_count (replicate word_count 0) j patterns so.patterned r.flips h pattern_is;
       }
 
-    pub repairs_stop : (r : Repaired) → j < word_count → r ≡ repair_at words j → r ≡ Beyond
-        → record { words = replicate word_count 0; patterns = replicate word_count 0; flips = 0; beyond = j } ≡ repair_words_of words
+    pub repairs_stop : j < word_count → beyond ≡ repair_at words j → stopped_at j ≡ repair_words_of words
     unfolding repair_words_of first_beyond
-    repairs_stop r h is e =
-        let at : j ≡ lowest word_count beyond_at = stops word_count beyond_at j so.passed h (ap is_beyond (sym is ∙ e)) in
+    repairs_stop h is =
+        let at : j ≡ lowest word_count beyond_at = stops word_count beyond_at j so.passed h (ap is_beyond (sym is)) in
         rw (← at, lt-ltb j word_count h)
 
-    pub repairs_end : (total : ℕ) → word_count ≤ j → total ≡ flip_total patterns → record { words = repaired; patterns = patterns; flips = total; beyond = word_count } ≡ repair_words_of words
+    pub repairs_end : (total : ℕ) → word_count ≤ j → total ≡ flip_total patterns → all_repaired (record { words = repaired; patterns = patterns; flips = total }) ≡ repair_words_of words
     unfolding repair_words_of first_beyond repaired_of patterns_in flips_in
     repairs_end total h flips =
         let none : j ≡ lowest word_count beyond_at = ends word_count beyond_at j so.passed h in

@@ -8,9 +8,8 @@ use lib.ListN.{get_or, replicate}
 use Rattle.base.proofs.Lowest.{lowest_none, lowest_is}
 use Rattle.base.proofs.Tabulate.{tabulate_length, tabulate_at, tabulate_is, tabulate_same, read_replicated}
 use Rattle.base.proofs.Sums.{sum_same, sum_zero}
-use Rattle.word.specs.declared.Repaired.TheVariants.{Word}
 use Rattle.word.specs.Words.{word_limit, flip_count}
-use Rattle.word.specs.Repairs.{is_beyond, word_of, pattern_of}
+use Rattle.word.specs.Repairs.{found, is_beyond, word_of, pattern_of}
 use Rattle.word.proofs.Valids.{distance_is, distance_self}
 use Rattle.word.proofs.Answer.{repair_close, repaired_close}
 use Rattle.air.specs.Air.{word_count}
@@ -26,7 +25,7 @@ distances_are words valid =
 
 module _ (words : List ℕ) (small : (j : ℕ) → get_or words j 0 < word_limit) where
   module _ (valid : List ℕ) (so : AllClose words valid) where
-    restored_at : (j : ℕ) → j < word_count → repair_at words j ≡ Word (get_or valid j 0) (bit_xor (get_or words j 0) (get_or valid j 0))
+    restored_at : (j : ℕ) → j < word_count → repair_at words j ≡ found (get_or valid j 0) (bit_xor (get_or words j 0) (get_or valid j 0))
     restored_at j h = repair_close (get_or words j 0) (get_or valid j 0) (small j) (so.each j h)
 
     pub restored_none : first_beyond words ≡ word_count

@@ -1,6 +1,6 @@
 -- Fourteen words repaired: the lowest beyond repair, or the valid words and the flip patterns.
 -- Assumes nothing.
-use Rattle.std.specs.Prelude.{ℕ, zero, suc, cond, List, ltb, leb, get_or, replicate}
+use Rattle.std.specs.Prelude.{ℕ, zero, suc, cond, List, Option, Result, Ok, Err, ltb, leb, get_or}
 use Rattle.base.specs.Lists.{tabulate, sum_to, lowest}
 use Rattle.word.specs.declared.Repaired.{Repaired}
 use Rattle.word.specs.Words.{flip_count}
@@ -9,7 +9,7 @@ use Rattle.air.specs.declared.RepairedWords.{RepairedWords}
 use Rattle.air.specs.Air.{word_count}
 
 -- the answer of repair for word j
-abbrev pub repair_at : List ℕ → ℕ → Repaired
+abbrev pub repair_at : List ℕ → ℕ → Option Repaired
 repair_at words j = repair_of (get_or words j 0)
 
 -- the lowest word beyond repair; 14 where there is none
@@ -31,12 +31,18 @@ flip_total patterns = sum_to word_count (λ j. flip_count (get_or patterns j 0))
 unfoldable pub flips_in : List ℕ → ℕ
 flips_in words = flip_total (patterns_in words)
 
--- beside a word beyond repair all else is 0
-unfoldable pub repair_words_of : List ℕ → RepairedWords
+-- an answer: all words repaired, or a word beyond repair, which has nothing beside it
+abbrev pub all_repaired : RepairedWords → Result RepairedWords ℕ
+all_repaired m = Ok m
+
+abbrev pub stopped_at : ℕ → Result RepairedWords ℕ
+stopped_at place = Err place
+
+unfoldable pub repair_words_of : List ℕ → Result RepairedWords ℕ
 repair_words_of words =
     cond (ltb (first_beyond words) word_count)
-    (record { words = replicate word_count 0; patterns = replicate word_count 0; flips = 0; beyond = first_beyond words })
-    (record { words = repaired_of words; patterns = patterns_in words; flips = flips_in words; beyond = word_count })
+    (stopped_at (first_beyond words))
+    (all_repaired (record { words = repaired_of words; patterns = patterns_in words; flips = flips_in words }))
 
 -- the greatest of f 0, f 1, .. f (n - 1); 0 where there is none
 unfoldable pub greatest : ℕ → (ℕ → ℕ) → ℕ

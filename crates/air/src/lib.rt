@@ -5,14 +5,13 @@ ghost use Rattle.std.specs.Prelude.{◌≡◌, ℕ, ◌+◌, ◌*◌, ◌/◌, �
 ghost use mathlib.Core.List.{◌++◌, foldl};
 ghost use Rattle.std.specs.Int.Bits.{bit_or};
 ghost use Rattle.base.specs.Lists.{AreBits};
-ghost use Rattle.word.specs.Repairs.{syndromes};
 ghost use Rattle.word.specs.Words.{positions, flip_count};
 ghost use Rattle.air.specs.Air.{word_count, air_bits, words_of, air_of, first_no_bit};
 ghost use Rattle.air.specs.Lanes.{top_position, lanes_to, padded, counts_of, lane_sum};
 ghost use Rattle.air.specs.WordRepairs.{repair_words_of, worst_of};
 
-use word::table::TABLE_ROWS;
-use word::{Repaired, WORD_LIMIT};
+use word::WORD_LIMIT;
+use word::table::Syndromes;
 
 // The words of a header.
 pub const WORD_COUNT: usize = 14;
@@ -34,42 +33,41 @@ pub const MOST_FLIPS: u32 = word::RADIUS * WORD_COUNT as u32;
 // The most bytes of a payload: "the field has 10 bits, so 1,023 is the limit"
 pub const LONGEST_PAYLOAD: usize = 1023;
 
-// Fourteen repaired words and the flip pattern of each; or the lowest word beyond repair, and then all else is 0.
+// The bits of a header on air, each 0 or 1.
+#[derive(Clone, Copy)]
+pub struct AirBits<'a> {
+    pub bits: &'a [u8; AIR_BITS],
+    // Of an array behind a field the prover knows no length by itself.
+    ghost whole: { length bits.now ≡ air_bits },
+    ghost each: { AreBits bits.now },
+}
+
+// Fourteen repaired words and the flip pattern of each.
 #[derive(Clone, Copy)]
 pub struct RepairedWords {
     pub words: [u16; WORD_COUNT],
     pub patterns: [u16; WORD_COUNT],
     // The ones of all patterns.
     pub flips: u32,
-    // The lowest word beyond repair; WORD_COUNT where there is none.
-    pub beyond: usize,
 }
 
 // All elements or-ed: below 2 only where each is.
 fn union(bytes: &[u8]) -> u8
     ensures { result ≡ foldl bit_or 0 bytes.now }
 {
-    let mut all: u8 = 0;
-    let mut i = 0;
-    while i < bytes.len() {
-        all = all | bytes[i];
-        i += 1;
-    }
-    all
+    bytes.iter().fold(0, |all, byte| all | *byte)
 }
 
 // The search for the lowest index of an element above 1.
 fn look(bytes: &[u8]) -> usize
     ensures { result ≡ first_no_bit bytes.now }
 {
-    let mut i = 0;
-    while i < bytes.len() {
+    for i in 0..bytes.len() {
         if 1 < bytes[i] {
             return i;
         }
-        i += 1;
     }
-    i
+    bytes.len()
 }
 
 // The lowest index of an element above 1, or the length. A test that leaves at each element is slow, so all are or-ed first.
@@ -93,53 +91,45 @@ fn with_bit(word: u16, bit: u8, weight: u16) -> u16
 }
 
 // Position i of each lane, taken in above those below it. The lanes past the words read on into the next position: nobody asks for them.
-fn with_row(lanes: [u16; LANES], air: &[u8], i: usize, weight: u16) -> [u16; LANES]
-    requires air_len { length air.now ≡ air_bits }
-    requires are_bits { AreBits air.now }
+fn with_row(lanes: [u16; LANES], air: AirBits, i: usize, weight: u16) -> [u16; LANES]
     requires i_lt_top_position { i < top_position }
     requires weight_value { weight ≡ 2 ^ i }
-    requires lanes_value { lanes ≡ lanes_to air.now i }
-    ensures { result ≡ lanes_to air.now (i + 1) }
+    requires lanes_value { lanes ≡ lanes_to air.bits.now i }
+    ensures { result ≡ lanes_to air.entry.bits.now (i + 1) }
 {
     let mut next = [0u16; LANES];
-    let mut j = 0;
-    while j < LANES {
-        next[j] = with_bit(lanes[j], air[WORD_COUNT * i + j], weight);
-        j += 1;
+    for j in 0..LANES {
+        next[j] = with_bit(lanes[j], air.bits[WORD_COUNT * i + j], weight);
     }
     next
 }
 
 // The words without their top position, in lanes.
-fn below_top(air: &[u8]) -> [u16; LANES]
-    requires air_len { length air.now ≡ air_bits }
-    requires are_bits { AreBits air.now }
-    ensures { result ≡ lanes_to air.now top_position }
+fn below_top(air: AirBits) -> [u16; LANES]
+    ensures { result ≡ lanes_to air.entry.bits.now top_position }
 {
     let mut lanes = [0u16; LANES];
     let mut weight: u16 = 1;
-    let mut i = 0;
-    while i < TOP_POSITION {
+    for i in 0..TOP_POSITION {
         let next = with_row(lanes, air, i, weight);
         lanes = next;
         weight *= 2;
-        i += 1;
     }
     lanes
 }
 
 // The fourteen words of a header's air bits. No position follows the top one, so it has no lanes past the words.
-pub fn words(air: &[u8]) -> [u16; WORD_COUNT]
-    requires air_len { length air.now ≡ air_bits }
-    requires are_bits { AreBits air.now }
-    ensures { result ≡ words_of air.now }
+pub fn words(air: AirBits) -> [u16; WORD_COUNT]
+    ensures { result ≡ words_of air.entry.bits.now }
 {
     let lanes = below_top(air);
     let mut all = [0u16; WORD_COUNT];
-    let mut j = 0;
-    while j < WORD_COUNT {
-        all[j] = with_bit(lanes[j], air[WORD_COUNT * TOP_POSITION + j], TOP_WEIGHT);
-        j += 1;
+    for j in 0..WORD_COUNT {
+        all[j] = with_bit(
+            lanes[j],
+            air.bits[WORD_COUNT * TOP_POSITION + j],
+            TOP_WEIGHT,
+        );
     }
     all
 }
@@ -157,10 +147,8 @@ pub fn send(words: [u16; WORD_COUNT], out: &mut [u8])
     requires { air_bits ≤ length out.old }
     ensures { out.new ≡ air_of words ++ drop air_bits out.old }
 {
-    let mut n = 0;
-    while n < AIR_BITS {
+    for n in 0..AIR_BITS {
         out[n] = bit(words[n % WORD_COUNT], n / WORD_COUNT);
-        n += 1;
     }
 }
 
@@ -176,10 +164,8 @@ fn in_lanes(patterns: [u16; WORD_COUNT]) -> [u16; LANES]
     ensures { result ≡ padded patterns }
 {
     let mut lanes = [0u16; LANES];
-    let mut j = 0;
-    while j < WORD_COUNT {
+    for j in 0..WORD_COUNT {
         lanes[j] = patterns[j];
-        j += 1;
     }
     lanes
 }
@@ -189,10 +175,8 @@ fn count_each(lanes: [u16; LANES]) -> [u16; LANES]
     ensures { result ≡ counts_of lanes }
 {
     let mut counts = [0u16; LANES];
-    let mut j = 0;
-    while j < LANES {
+    for j in 0..LANES {
         counts[j] = count(lanes[j]);
-        j += 1;
     }
     counts
 }
@@ -210,46 +194,31 @@ fn sum(counts: [u16; LANES]) -> u16
     ensures { result ≡ lane_sum counts }
 {
     let mut sum: u16 = 0;
-    let mut j = 0;
-    while j < LANES {
+    for j in 0..LANES {
         sum += counts[j];
-        j += 1;
     }
     sum
 }
 
-// The repair of fourteen words, by a lent copy of the syndrome table.
-pub fn repair_words(table: &[u16; TABLE_ROWS], words: [u16; WORD_COUNT]) -> RepairedWords
-    requires { table.now ≡ syndromes }
+// The repair of fourteen words, by a lent syndrome table; or the lowest word beyond repair.
+pub fn repair_words(table: &Syndromes, words: [u16; WORD_COUNT]) -> Result<RepairedWords, usize>
     ensures { result ≡ repair_words_of words }
 {
     let mut repaired = [0u16; WORD_COUNT];
     let mut patterns = [0u16; WORD_COUNT];
-    let mut j = 0;
-    while j < WORD_COUNT {
-        match word::repair_in(table, words[j]) {
-            Repaired::Word { word, flips } => {
-                repaired[j] = word;
-                patterns[j] = flips;
-            }
-            Repaired::Beyond => {
-                return RepairedWords {
-                    words: [0; WORD_COUNT],
-                    patterns: [0; WORD_COUNT],
-                    flips: 0,
-                    beyond: j,
-                };
-            }
-        }
-        j += 1;
+    for j in 0..WORD_COUNT {
+        let Some(found) = word::repair_in(table, words[j]) else {
+            return Err(j);
+        };
+        repaired[j] = found.word;
+        patterns[j] = found.flips;
     }
     let flips = sum(counted(patterns));
-    RepairedWords {
+    Ok(RepairedWords {
         words: repaired,
         patterns,
         flips: flips as u32,
-        beyond: WORD_COUNT,
-    }
+    })
 }
 
 // The lowest word with the most flips, by the counts of its patterns. The patterns themselves are lent for the contract alone.
@@ -259,15 +228,12 @@ fn worst_by(patterns: &[u16; WORD_COUNT], counts: [u16; LANES]) -> usize
 {
     let mut worst = 0;
     let mut most: u16 = 0;
-    let mut j = 0;
-    while j < WORD_COUNT {
+    for j in 0..WORD_COUNT {
         let flips = counts[j];
-        let here = j;
-        j += 1;
         if flips <= most {
             continue;
         }
-        worst = here;
+        worst = j;
         most = flips;
     }
     worst

@@ -1,3 +1,4 @@
+pub mod Made
 pub mod Soundness
 pub mod Judging
 pub mod Verdicts

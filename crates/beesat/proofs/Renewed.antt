@@ -1,7 +1,7 @@
 -- A number put into a row of a frame, and the error field worked out afresh: which rows change, and that the frame then agrees with its error field.
 -- Assumes nothing.
 use mathlib.Core.Path.{◌≡◌, refl, sym, ap, ◌∙◌}
-use mathlib.Core.List.{List, flat_map}
+use mathlib.Core.List.{List}
 use Prim.Native.Nat.{ℕ, ◌+◌, ◌*◌, ◌^◌, ◌≤◌, ◌<◌}
 use native.Mathlib.Omega.{arith}
 use lib.ListN.{length, get_or, take, drop, length-take, length-drop}
@@ -37,7 +37,7 @@ with_same frame long bytes k there = same_put rows frame (frame_sound frame long
 
 -- the error field stands after the bytes that are summed
 error_start : (row_in rows error_at).start ≡ byte_bits * summed_to
-unfolding rows flat_map row_in
+unfolding rows
 error_start = refl
 
 module _ (frame : List ℕ) (long : length frame ≡ frame_bytes) (bytes : AreBytes frame) (v : ℕ) where

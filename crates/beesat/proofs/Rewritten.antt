@@ -11,7 +11,7 @@ use lib.Dec.{eqb}
 use lib.ListN.{length}
 use borrow.Author.Tests.{eq-eqb, ne_eqb}
 use Rattle.base.specs.Checks.{refusal}
-use Rattle.base.specs.declared.Written.TheVariants.{Refused}
+use Rattle.base.specs.Written.{done, refused}
 use Rattle.base.proofs.Tests.{same_or_not}
 use Rattle.layout.specs.Bits.{bit_at, AreBytes}
 use Rattle.layout.specs.Rows.{row_in, HasValues, Outside}
@@ -21,8 +21,7 @@ use Rattle.beesat.specs.Reading.{field_in, apid_field, idle_apid, is_idle, heade
 use Rattle.beesat.specs.Accepting.{Accepts}
 use Rattle.beesat.specs.Writing.{with_row, renewed, write_field_of}
 use Rattle.beesat.specs.Inside.{good_read}
-use Rattle.beesat.specs.declared.Answer.TheVariants.{Idle}
-use Rattle.beesat.specs.declared.reading.Verdict.TheVariants.{Good}
+use Rattle.beesat.specs.Answers.{idling}
 use Rattle.beesat.proofs.Passed.{Passed, passed_good}
 use Rattle.beesat.proofs.WriteChecks.{gives_38_idle}
 use Rattle.beesat.proofs.Writable.{Writable}
@@ -116,7 +115,7 @@ module _ (frame : List ℕ) (field value : ℕ) (may : Writable frame field valu
   pub next_hides : field ≡ apid_field → value ≡ idle_apid → (k : ℕ) → k < data_count → shown_field (read_of next) k ≡ 0
   next_hides e is k h = rw (← (good_read_lem next next_passed)) (idle_hides next (next_idle e is) k h)
 
-  pub next_answers_idle : field ≡ apid_field → value ≡ idle_apid → (read_of next).answer ≡ Idle (header_in next)
+  pub next_answers_idle : field ≡ apid_field → value ≡ idle_apid → (read_of next).answer ≡ idling (header_in next)
   unfolding good_read
   next_answers_idle e is = rw (← (good_read_lem next next_passed), next_idle e is)
 
@@ -129,9 +128,9 @@ module _ (frame : List ℕ) (field value : ℕ) (may : Writable frame field valu
   pub next_writable : (field ≡ apid_field → value ≡ idle_apid → ⊥) → Writable next field value
   next_writable other = record { frame_passed = next_passed; there = may.there; packet = next_packet other; within = may.within }
 
-  pub next_refuses : field ≡ apid_field → value ≡ idle_apid → write_field_of next field value ≡ Refused (refusal 38 field)
+  pub next_refuses : field ≡ apid_field → value ≡ idle_apid → write_field_of next field value ≡ refused (refusal 38 field)
   next_refuses e is =
-      sym (gives_38_idle next field value Good (sym (passed_good next next_passed)) refl may.there true (sym (next_idle e is)) (Refused (refusal 38 field)) refl refl)
+      sym (gives_38_idle next field value done (sym (passed_good next next_passed)) tt refl may.there true (sym (next_idle e is)) (refused (refusal 38 field)) refl refl)
 
   -- every bit outside the field and the error field
   pub next_outside : (i : ℕ) → Outside (row_in rows field) i → Outside (row_in rows error_at) i → bit_at next i ≡ bit_at frame i

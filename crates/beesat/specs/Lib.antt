@@ -1,4 +1,5 @@
 pub mod Tables
+pub mod Answers
 pub mod Reading
 pub mod Accepting
 pub mod Writing

@@ -29,12 +29,14 @@ pub struct Header {
     pub psc: u16,
 }
 
+// What a frame holds: a telemetry packet, or an idle one, whose data isn't read.
 #[derive(Clone, Copy)]
-pub enum Answer {
+pub enum Contents {
     Telemetry(Header),
     Idle(Header),
-    Refused(Refusal),
 }
+
+pub type Answer = Result<Contents, Refusal>;
 
 // The values and the state bits stand beside the answer; state bits 4i to 4i + 3 are those of value i, as they stand. Beside an idle frame, whose
 // data isn't read, and beside a refusal all of them are 0.

@@ -4,7 +4,7 @@
 ghost use Rattle.std.specs.Prelude.{◌≡◌, ◌*◌, ◌≤◌, length};
 ghost use Rattle.beesat_list.specs.Sizes.{buffer_bytes};
 
-use streams::{is_done, read_on, send, turns_left, write};
+use streams::{Next, read_on, send, write};
 
 // A line may be longer than its frame, so what is read at once is an eighth of what is written.
 const BUFFER_BYTES: usize = 8192;
@@ -24,27 +24,30 @@ fn list(rt: HostRuntime, buf: &mut [u8], out: &mut [u8])
     if !write(rt, &out[..title]) {
         return;
     }
-    let mut counts = opened.counts;
+    let mut counts = opened.state;
     let mut kept = 0;
-    let mut ended = false;
-    let mut turns = MOST_TURNS;
-    while turns > 0 {
+    for turn in 0..MOST_TURNS {
         let filled = read_on(rt, buf, kept);
         let end = filled.end;
         let listed = beesat_listing::list_piece(counts, buf, end, out);
-        counts = listed.counts;
+        counts = listed.state;
         kept = listed.left;
         let read = filled.next;
-        let next = send(rt, out, listed.to, read, false);
-        ended = is_done(next);
-        turns = turns_left(turns, next);
-    }
-    if ended {
-        let n = beesat_listing::close(counts, kept, out);
-        write(rt, &out[..n]);
+        match send(rt, out, listed.to, read, false) {
+            Next::More => {}
+            Next::Failed => {
+                return;
+            }
+            Next::Done => {
+                let n = beesat_listing::close(counts, kept, out);
+                write(rt, &out[..n]);
+                return;
+            }
+        }
     }
 }
 
+// (Each program has the buffers that its lines need: three lines, no shorter as one function.)
 fn main(rt: HostRuntime) {
     let mut buf = [0u8; BUFFER_BYTES];
     let mut out = [0u8; OUTPUT_BYTES];

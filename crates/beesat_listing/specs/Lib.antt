@@ -1,4 +1,3 @@
 pub mod Counting
 pub mod Lines
 pub mod Listing
-pub mod Promises

@@ -7,14 +7,16 @@ ghost use Rattle.std.specs.Prelude.{◌+◌, ◌*◌, ◌<◌, ◌≤◌, ◌^�
 ghost use Rattle.text.specs.Text.{Put};
 ghost use Rattle.walk.specs.Walks.{waiting, cut_with};
 ghost use Rattle.walk.specs.Scans.{Scanned, Turned};
-ghost use Rattle.beesat_listing.specs.Counting.{heard_of};
-ghost use Rattle.beesat_listing.specs.Lines.{closing_of, line_room};
-ghost use Rattle.beesat_listing.specs.Listing.{frame_walk};
-ghost use Rattle.beesat_listing.specs.Promises.{Opens, Takes};
+ghost use Rattle.beesat.specs.Reading.{read_of};
+ghost use Rattle.walk.specs.Promises.{Opens, Takes};
+ghost use Rattle.beesat_listing.specs.Counting.{no_counts, heard_of};
+ghost use Rattle.beesat_listing.specs.Lines.{title, frame_line, closing_of, line_room};
+ghost use Rattle.beesat_listing.specs.Listing.{next_counts, frame_walk};
 
 use beesat::FRAME_BYTES;
 pub use frame_lines::put_refusal;
 use frame_lines::{counted, heard, put_closing, put_line, put_title};
+use walk::{After, Listed};
 
 // How many frames of each kind there were.
 #[derive(Clone, Copy)]
@@ -24,36 +26,14 @@ pub struct Counts {
     pub refused: u64,
 }
 
-// A listing was opened: the counts of no frame, and the place after the first line.
-#[derive(Clone, Copy)]
-pub struct Opened {
-    pub counts: Counts,
-    pub to: usize,
-}
-
-// A frame was taken: the counts after it, and the place after its line.
-#[derive(Clone, Copy)]
-pub struct Taken {
-    pub counts: Counts,
-    pub to: usize,
-}
-
-// Some bytes were listed: the counts after their frames, how many bytes are left, and the place after the lines.
-#[derive(Clone, Copy)]
-pub struct Listed {
-    pub counts: Counts,
-    pub left: usize,
-    pub to: usize,
-}
-
 // Opens a listing: puts the first line.
-pub fn open(out: &mut [u8]) -> Opened
+pub fn open(out: &mut [u8]) -> After<Counts>
     requires { line_room ≤ length out.old }
-    ensures { Opens out.old out.new result }
+    ensures { Opens no_counts title out.old out.new result }
 {
     let to = put_title(out);
-    Opened {
-        counts: Counts {
+    After {
+        state: Counts {
             telemetry: 0,
             idle: 0,
             refused: 0,
@@ -63,50 +43,54 @@ pub fn open(out: &mut [u8]) -> Opened
 }
 
 // Reads a frame, and puts its line into `out` at `to`.
-fn take_frame(counts: Counts, frame: &[u8], out: &mut [u8], to: usize) -> Taken
+fn take_frame(counts: Counts, frame: &[u8], out: &mut [u8], to: usize) -> After<Counts>
     requires counts_bound { heard_of counts + 1 < 2 ^ 64 }
     requires line_room_in_bounds { to + line_room ≤ length out.old }
-    ensures { Takes counts frame.now out.old to out.new result }
+    ensures { Takes (next_counts counts frame.now) (frame_line (heard_of counts) (read_of frame.now)) line_room out.old to out.new result }
 {
     let read = beesat::read_frame(frame);
     let next = put_line(out, to, heard(counts), read);
     let answer = read.answer;
-    Taken {
-        counts: counted(counts, answer),
+    After {
+        state: counted(counts, answer),
         to: next,
     }
 }
 
 // All whole frames of a piece: their lines go into `out` from `at` on. A line takes at most eight bytes for each byte of its frame.
-pub fn list_frames(start: Counts, piece: &[u8], out: &mut [u8], at: usize) -> Listed
+pub fn list_frames(start: Counts, piece: &[u8], out: &mut [u8], at: usize) -> Listed<Counts, ()>
     requires piece_bound { heard_of start + length piece.now < 2 ^ 64 }
     requires piece_in_bounds { at + 8 * length piece.now ≤ length out.old }
-    ensures { Scanned frame_walk 8 start piece.now out.old at out.new result.counts result.left result.to waiting }
+    ensures { Scanned frame_walk 8 start piece.now out.old at out.new result.state result.left result.to waiting }
 {
     let mut counts = start;
-    let mut used = 0;
+    let mut rest = piece;
     let mut to = at;
-    while FRAME_BYTES <= piece.len() - used {
-        let end = used + FRAME_BYTES;
-        let taken = take_frame(counts, &piece[used..end], out, to);
-        counts = taken.counts;
+    // A `while`: it counts no index, frames are cut off the front, and what is left is told.
+    while FRAME_BYTES <= rest.len() {
+        let taken = take_frame(counts, &rest[..FRAME_BYTES], out, to);
+        counts = taken.state;
         to = taken.to;
-        used = end;
+        rest = &rest[FRAME_BYTES..];
     }
-    let left = piece.len() - used;
-    Listed { counts, left, to }
+    Listed {
+        state: counts,
+        left: rest.len(),
+        to,
+        ending: (),
+    }
 }
 
 // The first `end` bytes of a buffer: the lines of their frames go into `out`, and what is left goes to the buffer's front.
-pub fn list_piece(counts: Counts, buf: &mut [u8], end: usize, out: &mut [u8]) -> Listed
+pub fn list_piece(counts: Counts, buf: &mut [u8], end: usize, out: &mut [u8]) -> Listed<Counts, ()>
     requires end_bound { heard_of counts + end < 2 ^ 64 }
     requires end_in_bounds { end ≤ length buf.old }
     requires end_in_bounds_2 { 8 * end ≤ length out.old }
-    ensures { Turned frame_walk 8 counts buf.old end out.old buf.new out.new result.counts result.left result.to waiting }
+    ensures { Turned frame_walk 8 counts buf.old end out.old buf.new out.new result.state result.left result.to waiting }
 {
     let listed = list_frames(counts, &buf[..end], out, 0);
     let left = listed.left;
-    walk::keep(buf, end - left, left);
+    walk::keep(buf, end, left);
     listed
 }
 

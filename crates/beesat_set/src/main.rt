@@ -4,8 +4,8 @@
 
 ghost use Rattle.std.specs.Prelude.{◌<◌, length};
 
-use base::{NOT_144_BYTES, Refusal, Written};
-use options::{Parsed, number};
+use base::{Reason, Refusal};
+use options::number;
 use std::io::Print;
 use streams::{Next, count_on, fill, write};
 
@@ -25,10 +25,10 @@ fn tell(rt: HostRuntime, why: Refusal) {
 // Writes one field of a frame of any length.
 fn set(rt: HostRuntime, frame: &mut [u8], field: u32, value: u32) {
     match beesat::write_field(frame, field, value) {
-        Written::Done => {
+        Ok(()) => {
             write(rt, frame);
         }
-        Written::Refused(why) => {
+        Err(why) => {
             tell(rt, why);
         }
     }
@@ -43,13 +43,7 @@ fn refuse_long(rt: HostRuntime, buf: &mut [u8])
     match next {
         Next::More => {}
         Next::Done => {
-            tell(
-                rt,
-                Refusal {
-                    number: NOT_144_BYTES,
-                    place: counted.size,
-                },
-            );
+            tell(rt, Reason::Not144Bytes.at(counted.size));
         }
         Next::Failed => {}
     }
@@ -73,11 +67,11 @@ fn set_input(rt: HostRuntime, field: u32, value: u32) {
 }
 
 fn main(rt: HostRuntime) {
-    let Parsed::Number(field) = number(rt, 1) else {
+    let Some(field) = number(rt, 1) else {
         streams::say(rt, "usage: beesat_set FIELD VALUE");
         return;
     };
-    let Parsed::Number(value) = number(rt, 2) else {
+    let Some(value) = number(rt, 2) else {
         streams::say(rt, "usage: beesat_set FIELD VALUE");
         return;
     };

@@ -5,11 +5,11 @@ ghost use Rattle.std.specs.Prelude.{◌+◌, ◌≤◌, ◌<◌, length};
 ghost use Rattle.marshalling.specs.declared.format.TheConstants.{FRAME_AFTER};
 
 use base::Written;
-use beesat::{Answer, Header, STATES, VALUES};
-use marshalling::format::{Record, Reply};
+use beesat::{Contents, Header, STATES, VALUES};
+use marshalling::format::{Kind, Record, Reply};
 use marshalling::{format, numbers};
 
-// The two cases of what was read.
+// The two cases of what was read: bytes of the replies' format.
 const TELEMETRY: u8 = 1;
 
 const IDLE: u8 = 2;
@@ -30,8 +30,7 @@ fn joined(a: u8, b: u8, c: u8, d: u8) -> u8 {
 }
 
 fn put_states(reply: &mut Reply, states: [u8; STATES]) {
-    let mut i = 0;
-    while i < VALUES {
+    for i in 0..VALUES {
         let at = 4 * i;
         reply[format::STATES + i] = joined(
             states[at],
@@ -39,7 +38,6 @@ fn put_states(reply: &mut Reply, states: [u8; STATES]) {
             states[at + 2],
             states[at + 3],
         );
-        i += 1;
     }
 }
 
@@ -54,11 +52,10 @@ fn read_reply(record: &Record, reply: &mut Reply) {
     let values = read.values;
     let states = read.states;
     put_data(reply, values, states);
-    let answer = read.answer;
-    match answer {
-        Answer::Telemetry(header) => put_header(reply, TELEMETRY, header),
-        Answer::Idle(header) => put_header(reply, IDLE, header),
-        Answer::Refused(why) => numbers::put_refusal(reply, why),
+    match read.answer {
+        Ok(Contents::Telemetry(header)) => put_header(reply, TELEMETRY, header),
+        Ok(Contents::Idle(header)) => put_header(reply, IDLE, header),
+        Err(why) => numbers::put_refusal(reply, why),
     }
 }
 
@@ -85,25 +82,18 @@ fn write_reply(record: &Record, reply: &mut Reply) {
     numbers::put_written(reply, answer);
 }
 
-// Answers the next record, and says whether there was one.
-fn answer_next(rt: HostRuntime) -> bool {
-    let mut record = [0u8; format::RECORD_BYTES];
-    let kind = marshalling::read_record(rt, &mut record);
-    let mut reply = [0u8; format::REPLY_BYTES];
+// Answers a record by its kind, and says whether that is one of this program's.
+fn answer(kind: Kind, record: &Record, reply: &mut Reply) -> bool {
     match kind {
-        format::BEESAT => read_reply(&record, &mut reply),
-        format::FIELDS => write_reply(&record, &mut reply),
+        Kind::Beesat => read_reply(record, reply),
+        Kind::Fields => write_reply(record, reply),
         _ => {
             return false;
         }
     }
-    marshalling::write_reply(rt, kind, &reply)
+    true
 }
 
-// The records are counted down from a number that no run uses up.
 fn main(rt: HostRuntime) {
-    let mut records = u64::MAX;
-    while records > 0 && answer_next(rt) {
-        records -= 1;
-    }
+    marshalling::answer_all(rt, answer);
 }

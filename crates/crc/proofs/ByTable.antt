@@ -19,7 +19,7 @@ use Rattle.base.proofs.Tabulate.{tabulate_at, tabulate_same, tabulate_more, read
 use Rattle.base.proofs.Xor.{xor_back}
 use Rattle.crc.specs.Crc.{byte_bits, bits_of, crc_step, crc_of}
 use Rattle.crc.specs.Crc5.{poly5}
-use Rattle.crc.specs.Steps.{step_of, steps_of}
+use Rattle.crc.specs.Steps.{step_of, steps_of, by_step}
 use Rattle.crc.proofs.Linear.{number_linear}
 use Rattle.crc.proofs.Loop.{crc_byte, crc_append}
 
@@ -87,6 +87,10 @@ by_table w p wide fits steps is crc byte step small fit row =
     by_steps w p fits steps is crc (crc / 2 ^ (w - byte_bits)) (crc % 2 ^ (w - byte_bits) * 2 ^ byte_bits) byte step small
     (shr_lt {n = crc} byte_bits (w - byte_bits) (rw width small)) fit
     (ap (crc_of w p crc) (own_bits_lem w p crc small byte_bits wide) ∙ own_in w p crc small byte_bits wide) row
+
+pub stepped : (w p : ℕ) → byte_bits ≤ w → p < 2 ^ w → (steps : List ℕ) → steps ≡ steps_of w p → (crc byte next : ℕ) → crc < 2 ^ w → Fits w8 byte
+    → next ≡ by_step (2 ^ (w - byte_bits)) steps crc byte → next ≡ crc_byte w p crc byte
+stepped w p wide fits steps is crc byte next small fit e = e ∙ by_table w p wide fits steps is crc byte _ small fit refl
 
 -- where it has fewer, as CRC5: all of it cancels at the top of the byte. Computed, all 32
 all_cancel : tabulate 32 (λ c. crc_byte 5 poly5 c (c * 2 ^ 3)) ≡ replicate 32 0

@@ -76,6 +76,17 @@ module _ (hi lo : ℕ) (small : lo < 2 ^ 40) where
   unfolding crc5_over
   nine_ends i crc so h = down_bytes 5 poly5 start5 (nine_bytes (header_bits hi lo)) i crc so.done h
 
+  -- the same loop by how many of the eight are in
+  pub nine_next : (k crc : ℕ) → k < 8 → NineIn hi lo (8 - k) crc
+      → (next : ℕ) → next ≡ crc_byte 5 poly5 crc (eight_of hi lo / 2 ^ (8 * k) % 256) → NineIn hi lo (8 - (k + 1)) next
+  nine_next k crc h so next e =
+      let back : 8 - (8 - k) ≡ k = omega arith in
+      let down : 8 - k - 1 ≡ 8 - (k + 1) = omega arith in
+      rw down at (nine_goes_on (8 - k) crc so (omega arith) next (rw back e))
+
+  pub nine_done : (k crc : ℕ) → NineIn hi lo (8 - k) crc → 8 ≤ k → crc ≡ crc5_over (header_bits hi lo)
+  nine_done k crc so h = nine_ends (8 - k) crc so (omega arith)
+
 -- what counts differs in the lower number only
 flown_lower : (hi lo : ℕ) → lo < 2 ^ 40 → hi < 2 ^ 30 → header_bits hi (counted_flown lo) ≡ counted_flown (header_bits hi lo)
 flown_lower hi lo small h =

@@ -1,6 +1,7 @@
 -- The steps by which a byte goes into a checksum at once, in place of its eight bits one after the other.
 -- Assumes nothing.
-use Rattle.std.specs.Prelude.{List, ℕ}
+use Rattle.std.specs.Prelude.{List, ℕ, ◌*◌, ◌/◌, ◌%◌, ◌^◌, get_or}
+use Rattle.std.specs.Int.Bits.{bit_xor}
 use Rattle.base.specs.Lists.{tabulate}
 use Rattle.crc.specs.Crc.{byte_bits, bits_of, crc_of, poly13, poly16}
 use Rattle.crc.specs.Crc5.{poly5}
@@ -21,3 +22,8 @@ steps16 = steps_of 16 poly16
 
 abbrev pub steps5 : List ℕ
 steps5 = steps_of 5 poly5
+
+-- a byte by a table, in a checksum whose bits below its eight highest count up to low: those eight and the byte choose the step,
+-- and the bits below move up
+abbrev pub by_step : ℕ → List ℕ → ℕ → ℕ → ℕ
+by_step low steps crc byte = bit_xor (get_or steps (bit_xor (crc / low) byte) 0) (crc % low * 2 ^ byte_bits)

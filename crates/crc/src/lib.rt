@@ -5,11 +5,13 @@ ghost use Rattle.std.specs.Prelude.{◌≡◌, ◌++◌, reverse, ◌+◌, ◌*�
 ghost use Rattle.crc.specs.Crc.{crc_of, byte_bits, bits_of, bits_of_bytes, poly13, start13, crc13_of, poly16, crc16_of};
 ghost use Rattle.crc.specs.Around.{around_bytes, added_at};
 ghost use Rattle.crc.specs.Crc5.{poly5, counted_flown, counting_bits, crc5_over, crc5_of};
-ghost use Rattle.crc.specs.Halves.{hi_width, lo_width, header_bits};
-ghost use Rattle.crc.specs.Steps.{steps13, steps16, steps5};
+ghost use Rattle.crc.specs.Halves.{header_bits};
+ghost use Rattle.crc.specs.Steps.{by_step, steps13, steps16, steps5};
 
 use base::Edition;
+pub use header_bits::HeaderBits;
 
+mod header_bits;
 mod steps;
 mod steps16;
 mod steps5;
@@ -43,14 +45,25 @@ const BIT_31: u64 = 0x40_0000_0000;
 
 const BIT_35: u64 = 0x4_0000_0000;
 
-// A byte by a lent copy of the table: the eight highest bits and the byte choose the step, and the bits below move up.
+// A byte by a lent copy of a table, in a checksum whose bits below the eight highest count up to LOW: the eight highest and the byte
+// choose the step, and the bits below move up.
+fn byte_in<const LOW: u16>(steps: &[u16; 256], crc: u16, byte: u8) -> u16
+    requires low_some { 0 < LOW }
+    requires low_bound { LOW ≤ 2 ^ byte_bits }
+    requires crc_bound { crc < LOW * 2 ^ byte_bits }
+    ensures { result ≡ by_step LOW steps.now crc byte }
+{
+    let top = (crc / LOW) as u8;
+    steps[(top ^ byte) as usize] ^ (crc % LOW * 0x100)
+}
+
+// A byte into CRC13.
 fn byte13_in(steps: &[u16; 256], crc: u16, byte: u8) -> u16
     requires steps_value { steps.now ≡ steps13 }
     requires crc_bound { crc < 2 ^ 13 }
     ensures { result ≡ crc_of 13 poly13 crc (bits_of byte_bits byte) }
 {
-    let top = (crc / LOW13) as u8;
-    steps::step_in(steps, top ^ byte) ^ (crc % LOW13 * 0x100)
+    byte_in::<LOW13>(steps, crc, byte)
 }
 
 // Bytes into a state, from the last to the first.
@@ -60,6 +73,7 @@ fn down13(steps: &[u16; 256], start: u16, bytes: &[u8]) -> u16
     ensures { result ≡ crc_of 13 poly13 start (bits_of_bytes (reverse bytes.now)) }
 {
     let mut crc = start;
+    // Counted by hand: over a reversed range the listing is slower.
     let mut i = bytes.len();
     while 0 < i {
         crc = byte13_in(steps, crc, bytes[i - 1]);
@@ -74,10 +88,8 @@ fn with_bytes(sum: [u8; AROUND_BYTES], bytes: &[u8], at: usize) -> [u8; AROUND_B
     ensures { result ≡ added_at sum at bytes.now }
 {
     let mut next = [0u8; AROUND_BYTES];
-    let mut j = 0;
-    while j < AROUND_BYTES {
+    for j in 0..AROUND_BYTES {
         next[j] = sum[j] ^ bytes[at + j];
-        j += 1;
     }
     next
 }
@@ -92,6 +104,7 @@ fn down13_beside(steps: &[u16; 256], bytes: &[u8], sum: &[u8]) -> u16
 {
     let mut started = START13;
     let mut added: u16 = 0;
+    // Counted by hand: over a reversed range the listing is slower.
     let mut i = bytes.len();
     let mut j = AROUND_BYTES;
     while 0 < i {
@@ -114,6 +127,7 @@ fn crc13_in(steps: &[u16; 256], payload: &[u8]) -> u16
     }
     let mut sum = [0u8; AROUND_BYTES];
     let mut at = 0;
+    // A `while`, no plainer as a `for`: whole blocks are taken, and the rest from `at` on is used after them.
     while AROUND_BYTES <= payload.len() - at {
         let next = with_bytes(sum, payload, at);
         sum = next;
@@ -131,13 +145,12 @@ pub fn crc13(payload: &[u8]) -> u16
     crc13_in(&copy, payload)
 }
 
-// A byte into the 16-bit checksum, the same way.
+// A byte into the 16-bit checksum.
 fn byte16_in(steps: &[u16; 256], crc: u16, byte: u8) -> u16
     requires { steps.now ≡ steps16 }
     ensures { result ≡ crc_of 16 poly16 crc (bits_of byte_bits byte) }
 {
-    let top = (crc / LOW16) as u8;
-    steps::step_in(steps, top ^ byte) ^ (crc % LOW16 * 0x100)
+    byte_in::<LOW16>(steps, crc, byte)
 }
 
 // The 16-bit checksum by a lent copy of its table.
@@ -146,15 +159,14 @@ fn crc16_in(steps: &[u16; 256], bytes: &[u8]) -> u16
     ensures { result ≡ crc16_of bytes.now }
 {
     let mut crc = START16;
-    let mut i = 0;
-    while i < bytes.len() {
-        crc = byte16_in(steps, crc, bytes[i]);
-        i += 1;
+    for byte in bytes {
+        crc = byte16_in(steps, crc, *byte);
     }
     crc
 }
 
 // The 16-bit checksum of any bytes, from the first to the last.
+// (Alike `crc13` but for the table and what goes through it: one function of both would be no shorter than this line of theirs.)
 pub fn crc16(bytes: &[u8]) -> u16
     ensures { result ≡ crc16_of bytes.now }
 {
@@ -168,26 +180,21 @@ fn byte5_in(steps: &[u8; 256], crc: u8, byte: u8) -> u8
     requires crc_bound { crc < 2 ^ 5 }
     ensures { result ≡ crc_of 5 poly5 crc (bits_of byte_bits byte) }
 {
-    steps5::step_in(steps, (crc * TOP5) ^ byte)
+    steps[((crc * TOP5) ^ byte) as usize]
 }
 
-// CRC5 of the header bits that count, from the last byte to the first. A header of 70 bits is two numbers, since no number of Rattle
-// has as many: `hi` is header bits 0 to 29, `lo` header bits 30 to 69. No field crosses bit 30.
-fn crc5_over(hi: u64, lo: u64) -> u8
-    requires hi_bound { hi < 2 ^ hi_width }
-    requires lo_bound { lo < 2 ^ lo_width }
-    ensures { result ≡ crc5_over (header_bits hi lo) }
+// CRC5 of the header bits that count, from the last byte to the first.
+fn crc5_over(bits: HeaderBits) -> u8
+    ensures { result ≡ crc5_over (header_bits bits.hi bits.lo) }
 {
+    let HeaderBits { hi, lo } = bits;
     // Byte 8 is header bit 64 (bit 5 of `lo`) and the filling; bytes 0 to 7 are header bits 0 to 63.
     let last = lo / 0x20 % 2 * 0x80 + FILLING;
     let eight = hi * 0x4_0000_0000 + lo / 0x40;
     let copy = steps5::whole();
     let mut crc = byte5_in(&copy, START5, last as u8);
-    let mut i: u64 = 8;
-    while 0 < i {
-        // Below byte i - 1 of the eight stand 8 - i.
-        crc = byte5_in(&copy, crc, ((eight >> (8 * (8 - i))) % 0x100) as u8);
-        i -= 1;
+    for below in 0..8u64 {
+        crc = byte5_in(&copy, crc, ((eight >> (8 * below)) % 0x100) as u8);
     }
     crc
 }
@@ -210,10 +217,11 @@ fn counting(edition: Edition, lo: u64) -> u64
 }
 
 // CRC5 of a header under an edition.
-pub fn crc5(edition: Edition, hi: u64, lo: u64) -> u8
-    requires hi_bound { hi < 2 ^ hi_width }
-    requires lo_bound { lo < 2 ^ lo_width }
-    ensures { result ≡ crc5_of edition (header_bits hi lo) }
+pub fn crc5(edition: Edition, bits: HeaderBits) -> u8
+    ensures { result ≡ crc5_of edition (header_bits bits.hi bits.lo) }
 {
-    crc5_over(hi, counting(edition, lo))
+    crc5_over(HeaderBits {
+        hi: bits.hi,
+        lo: counting(edition, bits.lo),
+    })
 }

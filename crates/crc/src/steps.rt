@@ -1,5 +1,5 @@
 // The steps of CRC13: what each byte makes of a checksum of 0.
-ghost use Rattle.std.specs.Prelude.{◌≡◌, get_or};
+ghost use Rattle.std.specs.Prelude.{◌≡◌};
 ghost use Rattle.crc.specs.Steps.{steps13};
 
 // The whole table: copy it once, and lend the copy.
@@ -7,13 +7,6 @@ pub fn whole() -> [u16; 256]
     ensures { result ≡ steps13 }
 {
     STEPS
-}
-
-// The step of a byte in a lent copy.
-pub fn step_in(steps: &[u16; 256], byte: u8) -> u16
-    ensures { result ≡ get_or steps.now byte 0 }
-{
-    steps[byte as usize]
 }
 
 // By the byte.

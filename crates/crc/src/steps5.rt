@@ -1,5 +1,5 @@
 // The steps of CRC5: what each byte makes of a checksum of 0.
-ghost use Rattle.std.specs.Prelude.{◌≡◌, get_or};
+ghost use Rattle.std.specs.Prelude.{◌≡◌};
 ghost use Rattle.crc.specs.Steps.{steps5};
 
 // The whole table: copy it once, and lend the copy.
@@ -7,13 +7,6 @@ pub fn whole() -> [u8; 256]
     ensures { result ≡ steps5 }
 {
     STEPS
-}
-
-// The step of a byte in a lent copy.
-pub fn step_in(steps: &[u8; 256], byte: u8) -> u8
-    ensures { result ≡ get_or steps.now byte 0 }
-{
-    steps[byte as usize]
 }
 
 // By the byte.

@@ -6,20 +6,14 @@ ghost use Rattle.std.specs.Prelude.{◌≡◌};
 ghost use Rattle.marks.specs.Pieces.{step_of, taken_of};
 
 use base::Edition;
-use header::{Answer, Read};
+use header::Read;
 use marks::{MARKER_BITS, Mark, State, Step, Taken, WINDOW_BITS};
 
 // The most marks that are compared.
 const MOST: usize = 64;
 
-// More than any number of marks: one was another.
-const OTHER: usize = MOST + 1;
-
 // Room for the recording.
 const ROOM: usize = 65536;
-
-// No satellite: a header alone.
-const NO_CALL: u8 = 4;
 
 // What `marks::find` answers, by a reader of the piece that is moved to the position.
 fn found(state: State, piece: &[u8], at: usize) -> Step
@@ -37,76 +31,61 @@ fn closed(state: State, piece: &[u8]) -> Taken
 
 // The places of the marks of a piece after a state; how many there are.
 fn collect(state: State, piece: &[u8], places: &mut [u32; MOST]) -> usize {
-    let mut n = 0;
     let mut at = 0;
-    while n < MOST {
+    for n in 0..MOST {
         let step = found(state, piece, at);
-        if !step.found {
+        let Some(mark) = step.mark else {
             return n;
-        }
-        places[n] = step.mark.place;
+        };
+        places[n] = mark.place;
         at = step.next;
-        n += 1;
     }
-    n
+    MOST
 }
 
-// The marks of a piece after a state, held against the places from the n-th on; how many have agreed.
-fn agree(state: State, piece: &[u8], places: &[u32; MOST], start: usize) -> usize {
-    let mut n = start;
+// The marks of a piece after a state, held against the places from the n-th on; how many have agreed. None where one is another.
+fn agree(state: State, piece: &[u8], places: &[u32; MOST], start: usize) -> Option<usize> {
     let mut at = 0;
-    while n < MOST {
+    for n in start..MOST {
         let step = marks::find(state, piece, at);
-        if !step.found {
-            return n;
-        }
-        if step.mark.place != places[n] {
-            return OTHER;
+        let Some(mark) = step.mark else {
+            return Some(n);
+        };
+        if mark.place != places[n] {
+            return None;
         }
         at = step.next;
-        n += 1;
     }
-    n
+    Some(MOST)
 }
 
 // The same of the bits cut in two at k.
-fn cut_at(bits: &[u8], k: usize, places: &[u32; MOST]) -> usize {
-    if bits.len() < k {
-        return OTHER;
-    }
+fn cut_at(bits: &[u8], k: usize, places: &[u32; MOST]) -> Option<usize> {
+    let (front, rest) = bits.split_at_checked(k)?;
     let state = marks::fresh();
-    let n = agree(state, &bits[..k], places, 0);
-    let taken = marks::take(state, &bits[..k]);
+    let n = agree(state, front, places, 0)?;
+    let taken = marks::take(state, front);
     let after = taken.state;
-    agree(after, &bits[k..], places, n)
+    agree(after, rest, places, n)
 }
 
 // How many cuts give as many marks, in the same places.
-fn all_cuts(bits: &[u8], places: &[u32; MOST], marks: usize) -> u64 {
-    let mut same: u64 = 0;
-    let mut k = 0;
-    while k < bits.len() {
-        if cut_at(bits, k, places) == marks {
-            same = std::num::wrapping_add_u64(same, 1);
-        }
-        k += 1;
-    }
-    same
+fn all_cuts(bits: &[u8], places: &[u32; MOST], marks: usize) -> usize {
+    (0..bits.len())
+        .filter(|k| cut_at(bits, *k, places) == Some(marks))
+        .count()
 }
 
 // The same bit by bit, each a piece.
-fn bit_by_bit(bits: &[u8], places: &[u32; MOST]) -> usize {
+fn bit_by_bit(bits: &[u8], places: &[u32; MOST]) -> Option<usize> {
     let mut state = marks::fresh();
     let mut n = 0;
-    let mut i = 0;
-    while i < bits.len() {
-        let end = i + 1;
-        n = agree(state, &bits[i..end], places, n);
-        let taken = closed(state, &bits[i..end]);
+    for bit in bits.chunks(1) {
+        n = agree(state, bit, places, n)?;
+        let taken = closed(state, bit);
         state = taken.state;
-        i = end;
     }
-    n
+    Some(n)
 }
 
 // What is read of the header in a window with the call sign of a satellite.
@@ -117,39 +96,30 @@ fn read_signed(window: [u8; WINDOW_BITS], satellite: u8) -> Read {
 }
 
 // What is read of a mark's header: alone, or with the call sign of a satellite.
-fn read(mark: Mark, satellite: u8) -> Read {
-    if satellite == NO_CALL {
-        return search::read_mark(Edition::Flown, mark);
-    }
-    let window = mark.window;
-    read_signed(window, satellite)
-}
-
-fn is_accepted(answer: Answer) -> bool {
-    match answer {
-        Answer::Accepted { .. } => true,
-        Answer::Refused(_) => false,
+fn read(mark: Mark, satellite: Option<u8>) -> Read {
+    match satellite {
+        None => search::read_mark(Edition::Flown, mark),
+        Some(satellite) => {
+            let window = mark.window;
+            read_signed(window, satellite)
+        }
     }
 }
 
 // How many headers of the bits are accepted so.
-fn accepted(bits: &[u8], satellite: u8) -> u64 {
+fn accepted(bits: &[u8], satellite: Option<u8>) -> u64 {
     let mut good: u64 = 0;
     let mut at = 0;
-    let mut n = 0;
-    while n < MOST {
+    for _ in 0..MOST {
         let step = marks::find(marks::fresh(), bits, at);
-        if !step.found {
+        let Some(mark) = step.mark else {
             return good;
-        }
-        let mark = step.mark;
+        };
         let header = read(mark, satellite);
-        let answer = header.answer;
-        if is_accepted(answer) {
-            good = std::num::wrapping_add_u64(good, 1);
+        if header.answer.is_ok() {
+            good += 1;
         }
         at = step.next;
-        n += 1;
     }
     good
 }
@@ -173,12 +143,30 @@ fn main(rt: HostRuntime) {
     told(
         rt,
         "cuts with the same marks",
-        all_cuts(bits, &places, marks),
+        all_cuts(bits, &places, marks) as u64,
     );
-    told(rt, "marks bit by bit", bit_by_bit(bits, &places) as u64);
-    told(rt, "accepted", accepted(bits, NO_CALL));
-    told(rt, "accepted with the call sign of A", accepted(bits, 0));
-    told(rt, "accepted with the call sign of B", accepted(bits, 1));
-    told(rt, "accepted with the call sign of C", accepted(bits, 2));
-    told(rt, "accepted with the call sign of D", accepted(bits, 3));
+    // Where a mark was another, one more than the most is told.
+    let agreed = bit_by_bit(bits, &places).unwrap_or(MOST + 1);
+    told(rt, "marks bit by bit", agreed as u64);
+    told(rt, "accepted", accepted(bits, None));
+    told(
+        rt,
+        "accepted with the call sign of A",
+        accepted(bits, Some(0)),
+    );
+    told(
+        rt,
+        "accepted with the call sign of B",
+        accepted(bits, Some(1)),
+    );
+    told(
+        rt,
+        "accepted with the call sign of C",
+        accepted(bits, Some(2)),
+    );
+    told(
+        rt,
+        "accepted with the call sign of D",
+        accepted(bits, Some(3)),
+    );
 }

@@ -9,7 +9,7 @@ use Rattle.base.specs.Checks.{first}
 use Rattle.header.specs.declared.Rules.{Rules}
 use Rattle.header_reader.specs.Reading.{signal, signed, repaired_answer, read_header_of, header_read}
 use Rattle.frame.specs.Frames.{frame, signed_frame, frame_of, frame_read}
-use Rattle.sheet.specs.declared.Sheet.{Sheet}
+use Rattle.sheet.specs.Sheets.{Sheet}
 use Rattle.sheet.specs.Sheets.{offer_answer, offer_of}
 use Rattle.demands.specs.Unsigned.{header_checks_before, frame_checks_before}
 

@@ -11,8 +11,8 @@ use Rattle.sign.specs.Calls.{Call, looked_at, Agrees}
 use Rattle.header.specs.declared.Header.{Header}
 use Rattle.header.specs.declared.Rules.{Rules}
 use Rattle.header.specs.declared.Fields.{Fields}
-use Rattle.header.specs.declared.Answer.TheVariants.{Accepted}
-use Rattle.base.specs.declared.Written.TheVariants.{Done}
+use Rattle.header.specs.Answers.{accepted}
+use Rattle.base.specs.Written.{done}
 use Rattle.header.specs.Fields.{satellite_of}
 use Rattle.header.specs.Writing.{header_for, HeaderWritten}
 use Rattle.air.specs.Air.{word_count, air_bits}
@@ -25,8 +25,8 @@ use Rattle.demands.proofs.Headers.{header_accepted_with_one, header_written_acce
 
 -- "accepted exactly when the published rules accept it"
 pub accepted_exactly : (f : Frame) (h : Header) (flips : ℕ) (patterns : List ℕ)
-    → (frame_read f ≡ record { answer = Accepted h flips; patterns = patterns } → Accepts f h flips patterns)
-    × (Accepts f h flips patterns → frame_read f ≡ record { answer = Accepted h flips; patterns = patterns })
+    → (frame_read f ≡ record { answer = accepted h flips; patterns = patterns } → Accepts f h flips patterns)
+    × (Accepts f h flips patterns → frame_read f ≡ record { answer = accepted h flips; patterns = patterns })
 accepted_exactly f h flips patterns = (reader_then_rules f h flips patterns, rules_then_reader f h flips patterns)
 
 -- the rules accept a frame with one header, one number of flips and one list of patterns
@@ -35,7 +35,7 @@ accepted_with_one f h g k m p q a b = header_accepted_with_one f.head h g k m p 
 
 -- the writer was handed an edition, some fields, a payload and an output, and wrote; the reader is handed rules of the same edition, and
 -- perhaps a call sign
-module _ (rules : Rules) (f : Fields) (payload before after : List ℕ) (written : HeaderWritten rules.edition f payload before Done after) (call : Call) where
+module _ (rules : Rules) (f : Fields) (payload before after : List ℕ) (written : HeaderWritten rules.edition f payload before done after) (call : Call) where
   -- "the bits those rules fix": under any limit of at most 42, the rules accept what stands in the output with the fields, PduLength and the
   -- checksums, and no flips; "where they are looked at", the call sign bits are those of the satellite
   pub written_accepted : rules.limit ≤ most_flips → Agrees (looked_at rules.edition call) (satellite_of f.src_id)

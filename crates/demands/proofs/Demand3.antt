@@ -27,8 +27,8 @@ use Rattle.header.specs.declared.Fields.{Fields}
 use Rattle.header.specs.declared.Rules.{Rules}
 use Rattle.header.specs.Rules.{usual_rules}
 use Rattle.frame.specs.Recorded.{listed_rules}
-use Rattle.header.specs.declared.Answer.TheVariants.{Accepted, Refused}
-use Rattle.base.specs.declared.Written.TheVariants.{Done}
+use Rattle.header.specs.Answers.{accepted, refused}
+use Rattle.base.specs.Written.{done}
 use Rattle.header.specs.Fields.{satellite_of}
 use Rattle.header.specs.Writing.{header_for, HeaderWritten}
 use Rattle.air.proofs.Flipped.{flip_patterns_bit, flip_patterns_total}
@@ -49,13 +49,13 @@ table_rows_lem = (rows_with_pattern, rows_marked)
 
 -- the writer was handed an edition, some fields, a payload and an output, and wrote; on the way some of the 210 bits were flipped; and the
 -- reader was handed rules of the same edition with "a limit of at most 42", and no call sign that is looked at, or that of the satellite
-module _ (rules : Rules) (allowed : rules.limit ≤ most_flips) (f : Fields) (payload before after : List ℕ) (written : HeaderWritten rules.edition f payload before Done after)
+module _ (rules : Rules) (allowed : rules.limit ≤ most_flips) (f : Fields) (payload before after : List ℕ) (written : HeaderWritten rules.edition f payload before done after)
     (call : Call) (agrees : Agrees (looked_at rules.edition call) (satellite_of f.src_id)) (air : List ℕ) (long : length air ≡ air_bits) (bits : AreBits air) where
   -- "reads back as that very header with the exact number of flips", and the exact pattern of every word
   abbrev pub ReadBack : Type 0
   ReadBack =
       frame_read (frame_with rules call air payload)
-      ≡ record { answer = Accepted (header_for rules.edition f payload) (flips_between air (take air_bits after)); patterns = flip_patterns air (take air_bits after) }
+      ≡ record { answer = accepted (header_for rules.edition f payload) (flips_between air (take air_bits after)); patterns = flip_patterns air (take air_bits after) }
 
   -- as the header alone is (`Headers`), so is it with its payload
   read_back : Restored rules f payload before after written call allowed agrees air long bits → ReadBack
@@ -72,7 +72,7 @@ module _ (rules : Rules) (allowed : rules.limit ≤ most_flips) (f : Fields) (pa
   burst_undone start burst = read_back (burst_restored rules f payload before after written call allowed agrees air long bits start burst)
 
 -- "a burst of up to 42 neighbouring bits" needs the limit 42, which the listing names; where no limit is named, 28 are undone
-module _ (edition : Edition) (f : Fields) (payload before after : List ℕ) (written : HeaderWritten edition f payload before Done after)
+module _ (edition : Edition) (f : Fields) (payload before after : List ℕ) (written : HeaderWritten edition f payload before done after)
     (call : Call) (agrees : Agrees (looked_at edition call) (satellite_of f.src_id)) (air : List ℕ) (long : length air ≡ air_bits) (bits : AreBits air) where
   pub burst_of_42 : (start : ℕ) → Burst 42 start air (take air_bits after) → ReadBack (listed_rules edition) (lit≤ tt) f payload before after written call agrees air long bits
   burst_of_42 = burst_undone (listed_rules edition) (lit≤ tt) f payload before after written call agrees air long bits
@@ -88,5 +88,5 @@ pub pattern_ones : (x y : List ℕ) → flip_total (flip_patterns x y) ≡ flips
 pattern_ones = flip_patterns_total
 
 -- 42 is the limit: a header of zeros whose first 43 bits are flipped is refused
-pub not_43 : (flips_between (burst_zeros 43) sent_zeros ≡ 43) × (flips_in_word (burst_zeros 43) sent_zeros 0 ≡ 4) × (frame_of (frame (listed_rules Flown) (burst_zeros 43) []) ≡ Refused (refusal 3 0))
+pub not_43 : (flips_between (burst_zeros 43) sent_zeros ≡ 43) × (flips_in_word (burst_zeros 43) sent_zeros 0 ≡ 4) × (frame_of (frame (listed_rules Flown) (burst_zeros 43) []) ≡ refused (refusal 3 0))
 not_43 = burst_of_43

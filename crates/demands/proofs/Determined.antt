@@ -2,36 +2,47 @@
 -- function's `ensures`, word for word (the gate compares them), of two answers r and s: an argument has its name in the code, and
 -- what a lent `out` holds afterwards is `out-r` beside r and `out-s` beside s.
 -- Assumes nothing.
-use mathlib.Core.Path.{◌≡◌, sym, ap, ◌∙◌}
+use mathlib.Core.Path.{◌≡◌, refl, sym, ap, ◌∙◌, contract'}
 use mathlib.Core.Bool.{Bool}
 use mathlib.Core.List.{List}
+use Rattle.std.specs.Prelude.{Option, Result, is_some}
 use Prim.Native.Nat.{ℕ}
 use lib.IntN.{ℤ}
+use Rattle.std.specs.Prelude.{Option}
 use Rattle.word.specs.declared.Repaired.{Repaired}
+use Rattle.word.specs.declared.table.Syndromes.{Syndromes}
 use Rattle.word.specs.Repairs.{repair_of, syndromes}
 use Rattle.crc.specs.Crc.{crc13_of, crc16_of}
-use Rattle.air.specs.Air.{first_no_bit}
+use Rattle.crc.specs.Crc5.{crc5_of}
+use Rattle.crc.specs.Halves.{header_bits}
+use Rattle.crc.specs.declared.header_bits.HeaderBits.{HeaderBits}
+use Rattle.air.specs.declared.AirBits.{AirBits}
+use Rattle.air.specs.Air.{words_of, first_no_bit}
 use Rattle.sign.specs.CallSigns.{sign_of}
-use Rattle.sign.specs.Calls.{call_of, looks_at, looked_at, fault_at, other_at}
+use Rattle.sign.specs.Calls.{call_in, looks_at, looked_at, fault_at, other_at}
 use Rattle.header.specs.declared.Fields.{Fields}
 use Rattle.header.specs.declared.Read.{Read}
 use Rattle.header.specs.declared.Rules.{Rules}
-use Rattle.header.specs.declared.Answer.{Answer}
-use Rattle.air.specs.WordRepairs.{worst_of}
+use Rattle.header.specs.Answers.{Answer}
+use Rattle.air.specs.declared.RepairedWords.{RepairedWords}
+use Rattle.air.specs.WordRepairs.{worst_of, repair_words_of}
 use Rattle.base.specs.declared.Edition.{Edition}
 use Rattle.base.specs.declared.Edition.TheVariants.{Flown, Corrected}
 use Rattle.base.specs.declared.Refusal.{Refusal}
-use Rattle.base.specs.declared.Written.{Written}
-use Rattle.header.specs.Fields.{last_source_of, satellite_of, radio_of}
+use Rattle.base.specs.Checks.{refusal}
+use Rattle.base.specs.Written.{Written}
+use Rattle.base.specs.declared.Reason.{Reason}
+use Rattle.base.specs.Reasons.{number_of}
+use Rattle.header.specs.Fields.{fields_from, values_of, last_source_of, satellite_of, radio_of}
 use Rattle.header.specs.HalfWidths.{halves_header}
 use Rattle.header.specs.Rules.{usual_rules}
-use Rattle.header_reader.specs.Reading.{signal, signed, header_read}
+use Rattle.header_reader.specs.Reading.{signal, signed, signal_with, header_read}
 use Rattle.header.specs.Patterns.{beside}
 use Rattle.header.specs.Writing.{after_write, HeaderWritten}
 use Rattle.beesat.specs.declared.Read.{Read as FrameRead}
 use Rattle.beesat.specs.Reading.{read_of}
 use Rattle.beesat.specs.Writing.{after_field, FieldWritten}
-use Rattle.frame.specs.Frames.{frame, signed_frame, frame_read}
+use Rattle.frame.specs.Frames.{frame, signed_frame, frame_with, frame_read}
 use Rattle.header.specs.declared.Header.{Header}
 use Rattle.source.specs.declared.Lane.{Lane}
 use Rattle.source.specs.declared.Source.{Source}
@@ -39,14 +50,14 @@ use Rattle.source.specs.declared.Display.{Display}
 use Rattle.source.specs.Records.{next_of}
 use Rattle.source.specs.Lanes.{silent, hear_of, frames_of, summed_of}
 use Rattle.source.specs.Counts.{counted_at, counts_after, total_in}
-use Rattle.sheet.specs.declared.Sheet.{Sheet}
-use Rattle.sheet.specs.declared.Offered.{Offered}
+use Rattle.sheet.specs.Sheets.{Sheet}
+use Rattle.sheet.specs.Sheets.{Offered}
 use Rattle.sheet.specs.Sheets.{new_sheet, accepted_of, refused_of, heard_of, full_of, offer_of, display_of}
-use Rattle.wide_sheet.specs.declared.WideSheet.{WideSheet}
-use Rattle.wide_sheet.specs.declared.WideOffered.{WideOffered}
+use Rattle.wide_sheet.specs.Wide.{WideSheet}
+use Rattle.wide_sheet.specs.Wide.{WideOffered}
 use Rattle.wide_sheet.specs.Wide.{held, widened, wide_offered}
 use Rattle.walk.specs.Walks.{cut_with}
-use Rattle.packing.specs.declared.Judged.{Judged}
+use Rattle.packing.specs.Lines.{Judged}
 use Rattle.packing.specs.Packing.{wrong_of}
 use Rattle.packing.specs.Pieces.{opened}
 use Rattle.lines.specs.declared.Tally.{Tally}
@@ -54,8 +65,8 @@ use Rattle.lines.specs.Lines.{letter_of}
 use Rattle.lines.specs.Tallies.{total_of}
 use Rattle.page_lines.specs.declared.Counts.{Counts}
 use Rattle.page_lines.specs.Counting.{records_heard}
-use Rattle.record.specs.declared.Cut.{Cut}
 use Rattle.record.specs.declared.Ending.{Ending}
+use Rattle.record.specs.declared.Cut.{Cut}
 use Rattle.record.specs.Records.{cut_of}
 use Rattle.record.specs.Walks.{over_of}
 use Rattle.record_writer.specs.Writing.{after_record, RecordWritten}
@@ -63,14 +74,13 @@ use Rattle.record_writer.specs.LongPayload.{whole_of}
 use Rattle.page.specs.declared.PageAnswer.{PageAnswer}
 use Rattle.report.specs.declared.Report.{Report}
 use Rattle.report.specs.declared.Added.{Added}
-use Rattle.report.specs.declared.RowReport.{RowReport}
-use Rattle.report.specs.declared.Mean.{Mean}
+use Rattle.report.specs.declared.Numbers.{Numbers}
+use Rattle.report.specs.declared.Fraction.{Fraction}
 use Rattle.report.specs.Adding.{fresh_report, added_of, row_report_of, mean_of}
 use Rattle.scaling.specs.declared.Scaling.{Scaling}
-use Rattle.scaling.specs.declared.ShownAnswer.{ShownAnswer}
 use Rattle.page.specs.Rows.{PageWritten}
 use Rattle.page.specs.Payload.{page_of}
-use Rattle.scaling.specs.Shown.{scaling_of, shown_of}
+use Rattle.scaling.specs.Shown.{scaling_of, ShownAnswer, shown_of}
 use denote.Ref.{Bor}
 use Rattle.marks.specs.declared.State.{State}
 use Rattle.marks.specs.declared.Mark.{Mark}
@@ -81,21 +91,38 @@ use Rattle.marks.specs.Pieces.{fresh_state, taken_of, step_of}
 use Rattle.mark_reader.specs.Readers.{reader_at}
 use Rattle.search.specs.Reports.{mark_read}
 
+-- call sign bits, lent
+abbrev Bits : Type 0
+Bits = Bor (List ℕ)
+
 -- a contract of the form `r ≡ d` allows one answer
 one : {A : Type 0} {r s d : A} → r ≡ d → s ≡ d → r ≡ s
 one a b = a ∙ sym b
 
-pub search_one : (w : ℕ) (r s : Repaired) → r ≡ repair_of w → s ≡ repair_of w → r ≡ s
+pub search_one : (w : ℕ) (r s : Option Repaired) → r ≡ repair_of w → s ≡ repair_of w → r ≡ s
 search_one w r s = one
 
-pub repair_one : (w : ℕ) (r s : Repaired) → r ≡ repair_of w → s ≡ repair_of w → r ≡ s
+pub repair_one : (w : ℕ) (r s : Option Repaired) → r ≡ repair_of w → s ≡ repair_of w → r ≡ s
 repair_one w r s = one
 
-pub whole_one : (r s : List ℕ) → r ≡ syndromes → s ≡ syndromes → r ≡ s
-whole_one r s = one
+pub repair_in_one : (w : ℕ) (r s : Option Repaired) → r ≡ repair_of w → s ≡ repair_of w → r ≡ s
+repair_in_one w r s = one
+
+abbrev the_table : Syndromes
+the_table = record { rows = syndromes; exact = refl }
+
+is_the_table : (t : Syndromes) → the_table ≡ t
+is_the_table t = λ i. record { rows = (contract' t.exact i).0; exact = (contract' t.exact i).1 }
+
+-- by its type, which has this value and no other
+pub Syndromes_new_one : (r s : Syndromes) → r ≡ s
+Syndromes_new_one r s = one (sym (is_the_table r)) (sym (is_the_table s))
 
 pub first_no_bit_one : (bytes : List ℕ) (r s : ℕ) → r ≡ first_no_bit bytes → s ≡ first_no_bit bytes → r ≡ s
 first_no_bit_one bytes r s = one
+
+pub words_one : (air : AirBits) (r s : List ℕ) → r ≡ words_of air.bits.now → s ≡ words_of air.bits.now → r ≡ s
+words_one air r s = one
 
 pub crc13_one : (payload : List ℕ) (r s : ℕ) → r ≡ crc13_of payload → s ≡ crc13_of payload → r ≡ s
 crc13_one payload r s = one
@@ -103,22 +130,28 @@ crc13_one payload r s = one
 pub crc16_one : (bytes : List ℕ) (r s : ℕ) → r ≡ crc16_of bytes → s ≡ crc16_of bytes → r ≡ s
 crc16_one bytes r s = one
 
+pub crc5_one : (edition : Edition) (bits : HeaderBits) (r s : ℕ) → r ≡ crc5_of edition (header_bits bits.hi bits.lo) → s ≡ crc5_of edition (header_bits bits.hi bits.lo) → r ≡ s
+crc5_one edition bits r s = one
+
 pub worst_one : (patterns : List ℕ) (r s : ℕ) → r ≡ worst_of patterns → s ≡ worst_of patterns → r ≡ s
 worst_one patterns r s = one
+
+pub repair_words_one : (words : List ℕ) (r s : Result RepairedWords ℕ) → r ≡ repair_words_of words → s ≡ repair_words_of words → r ≡ s
+repair_words_one words r s = one
 
 pub call_sign_one : (satellite : ℕ) (r s : List ℕ) → r ≡ sign_of satellite → s ≡ sign_of satellite → r ≡ s
 call_sign_one satellite r s = one
 
-pub looks_at_one : (edition : Edition) (given r s : Bool) → r ≡ looks_at edition given → s ≡ looks_at edition given → r ≡ s
-looks_at_one edition given r s = one
+pub looks_at_one : (edition : Edition) (call : Option Bits) (r s : Bool) → r ≡ looks_at edition (is_some call) → s ≡ looks_at edition (is_some call) → r ≡ s
+looks_at_one edition call r s = one
 
-pub fault_at_one : (edition : Edition) (given : Bool) (call : List ℕ) (r s : ℕ)
-    → r ≡ fault_at (looked_at edition (call_of given call)) → s ≡ fault_at (looked_at edition (call_of given call)) → r ≡ s
-fault_at_one edition given call r s = one
+pub fault_at_one : (edition : Edition) (call : Option Bits) (r s : ℕ)
+    → r ≡ fault_at (looked_at edition (call_in call)) → s ≡ fault_at (looked_at edition (call_in call)) → r ≡ s
+fault_at_one edition call r s = one
 
-pub other_at_one : (edition : Edition) (given : Bool) (call : List ℕ) (satellite r s : ℕ)
-    → r ≡ other_at (looked_at edition (call_of given call)) satellite → s ≡ other_at (looked_at edition (call_of given call)) satellite → r ≡ s
-other_at_one edition given call satellite r s = one
+pub other_at_one : (edition : Edition) (call : Option Bits) (satellite r s : ℕ)
+    → r ≡ other_at (looked_at edition (call_in call)) satellite → s ≡ other_at (looked_at edition (call_in call)) satellite → r ≡ s
+other_at_one edition call satellite r s = one
 
 pub with_patterns_one : (answer : Answer) (patterns : List ℕ) (r s : Read) → r ≡ beside patterns answer → s ≡ beside patterns answer → r ≡ s
 with_patterns_one answer patterns r s = one
@@ -132,6 +165,18 @@ radio_one src_id r s = one
 pub last_source_one : (edition : Edition) (r s : ℕ) → r ≡ last_source_of edition → s ≡ last_source_of edition → r ≡ s
 last_source_one edition r s = one
 
+pub number_one : (self : Reason) (r s : ℕ) → r ≡ number_of self → s ≡ number_of self → r ≡ s
+number_one self r s = one
+
+pub at_one : (self : Reason) (place : ℕ) (r s : Refusal) → r ≡ refusal (number_of self) place → s ≡ refusal (number_of self) place → r ≡ s
+at_one self place r s = one
+
+pub from_values_one : (values : List ℕ) (r s : Fields) → r ≡ fields_from values → s ≡ fields_from values → r ≡ s
+from_values_one values r s = one
+
+pub values_one : (self : Fields) (r s : List ℕ) → r ≡ values_of self → s ≡ values_of self → r ≡ s
+values_one self r s = one
+
 pub usual_one : (edition : Edition) (r s : Rules) → r ≡ usual_rules edition → s ≡ usual_rules edition → r ≡ s
 usual_one edition r s = one
 
@@ -143,6 +188,13 @@ read_header_one rules air r s = one
 
 pub read_header_signed_one : (rules : Rules) (call air : List ℕ) (r s : Read) → r ≡ header_read (signed rules call air) → s ≡ header_read (signed rules call air) → r ≡ s
 read_header_signed_one rules call air r s = one
+
+pub read_header_in_one : (rules : Rules) (air : List ℕ) (r s : Read) → r ≡ header_read (signal rules air) → s ≡ header_read (signal rules air) → r ≡ s
+read_header_in_one rules air r s = one
+
+pub read_header_with_one : (rules : Rules) (call : Option Bits) (air : List ℕ) (r s : Read)
+    → r ≡ header_read (signal_with rules (call_in call) air) → s ≡ header_read (signal_with rules (call_in call) air) → r ≡ s
+read_header_with_one rules call air r s = one
 
 -- the answer, and every byte of the output afterwards
 pub write_header_one : (edition : Edition) (fields : Fields) (payload out : List ℕ) (r s : Written) (out-r out-s : List ℕ)
@@ -157,6 +209,13 @@ read_frame_one rules air payload r s = one
 pub read_frame_signed_one : (rules : Rules) (call air payload : List ℕ) (r s : Read)
     → r ≡ frame_read (signed_frame rules call air payload) → s ≡ frame_read (signed_frame rules call air payload) → r ≡ s
 read_frame_signed_one rules call air payload r s = one
+
+pub read_frame_in_one : (rules : Rules) (air payload : List ℕ) (r s : Read) → r ≡ frame_read (frame rules air payload) → s ≡ frame_read (frame rules air payload) → r ≡ s
+read_frame_in_one rules air payload r s = one
+
+pub read_frame_with_one : (rules : Rules) (call : Option Bits) (air payload : List ℕ) (r s : Read)
+    → r ≡ frame_read (frame_with rules (call_in call) air payload) → s ≡ frame_read (frame_with rules (call_in call) air payload) → r ≡ s
+read_frame_with_one rules call air payload r s = one
 
 pub read_page_one : (payload : List ℕ) (r s : PageAnswer) → r ≡ page_of payload → s ≡ page_of payload → r ≡ s
 read_page_one payload r s = one
@@ -313,14 +372,17 @@ close_one reader state r s = one
 pub read_mark_one : (edition : Edition) (mark : Mark) (r s : Read) → r ≡ mark_read edition mark → s ≡ mark_read edition mark → r ≡ s
 read_mark_one edition mark r s = one
 
+pub read_mark_in_one : (edition : Edition) (mark : Mark) (r s : Read) → r ≡ mark_read edition mark → s ≡ mark_read edition mark → r ≡ s
+read_mark_in_one edition mark r s = one
+
 pub new_report_one : (r s : Report) → r ≡ fresh_report → s ≡ fresh_report → r ≡ s
 new_report_one r s = one
 
 pub add_page_one : (report : Report) (page : List ℤ) (r s : Added) → r ≡ added_of report page → s ≡ added_of report page → r ≡ s
 add_page_one report page r s = one
 
-pub row_of_one : (report : Report) (row : ℕ) (r s : RowReport) → r ≡ row_report_of report row → s ≡ row_report_of report row → r ≡ s
+pub row_of_one : (report : Report) (row : ℕ) (r s : Option Numbers) → r ≡ row_report_of report row → s ≡ row_report_of report row → r ≡ s
 row_of_one report row r s = one
 
-pub mean_of_one : (report : Report) (row : ℕ) (r s : Mean) → r ≡ mean_of report row → s ≡ mean_of report row → r ≡ s
+pub mean_of_one : (report : Report) (row : ℕ) (r s : Option Fraction) → r ≡ mean_of report row → s ≡ mean_of report row → r ≡ s
 mean_of_one report row r s = one

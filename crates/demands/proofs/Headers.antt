@@ -7,7 +7,7 @@ use Prim.Native.Nat.{ℕ, ◌<◌, ◌≤◌}
 use lib.Dec.{lit≤}
 use lib.ListN.{length, take, replicate}
 use Rattle.base.specs.declared.Edition.{Edition}
-use Rattle.base.specs.declared.Written.TheVariants.{Done}
+use Rattle.base.specs.Written.{done}
 use Rattle.base.specs.Lists.{AreBits}
 use Rattle.word.specs.Repairs.{radius}
 use Rattle.air.specs.Air.{word_count, air_bits}
@@ -16,7 +16,7 @@ use Rattle.sign.specs.Calls.{Call, looked_at, Agrees}
 use Rattle.header.specs.declared.Fields.{Fields}
 use Rattle.header.specs.declared.Header.{Header}
 use Rattle.header.specs.declared.Rules.{Rules}
-use Rattle.header.specs.declared.Answer.TheVariants.{Accepted}
+use Rattle.header.specs.Answers.{accepted}
 use Rattle.header.specs.Fields.{satellite_of}
 use Rattle.header_reader.specs.Reading.{Signal, signal_with, header_read}
 use Rattle.header_reader.specs.Accepting.{AcceptsHeader}
@@ -29,8 +29,8 @@ use Rattle.frame.specs.Recorded.{listed_rules}
 
 -- DEMAND 2: "accepted exactly when the published rules accept it"
 pub header_accepted_exactly : (s : Signal) (h : Header) (flips : ℕ) (patterns : List ℕ)
-    → (header_read s ≡ record { answer = Accepted h flips; patterns = patterns } → AcceptsHeader s h flips patterns)
-    × (AcceptsHeader s h flips patterns → header_read s ≡ record { answer = Accepted h flips; patterns = patterns })
+    → (header_read s ≡ record { answer = accepted h flips; patterns = patterns } → AcceptsHeader s h flips patterns)
+    × (AcceptsHeader s h flips patterns → header_read s ≡ record { answer = accepted h flips; patterns = patterns })
 header_accepted_exactly s h flips patterns = (header_then_rules s h flips patterns, rules_then_header s h flips patterns)
 
 -- with one header, one number of flips and one list of patterns
@@ -39,7 +39,7 @@ header_accepted_with_one = one_header
 
 -- the writer was handed an edition, some fields, a payload and an output, and wrote; the reader is handed rules of the same edition, and
 -- perhaps a call sign
-module _ (rules : Rules) (f : Fields) (payload before after : List ℕ) (written : HeaderWritten rules.edition f payload before Done after) (call : Call) where
+module _ (rules : Rules) (f : Fields) (payload before after : List ℕ) (written : HeaderWritten rules.edition f payload before done after) (call : Call) where
   so : Sent rules.edition f payload after
   so = sent rules.edition f payload before after written
 
@@ -61,7 +61,7 @@ module _ (rules : Rules) (f : Fields) (payload before after : List ℕ) (written
     abbrev pub HeaderBack : Type 0
     HeaderBack =
         header_read (signal_with rules call air)
-        ≡ record { answer = Accepted (header_for rules.edition f payload) (flips_between air (take air_bits after)); patterns = flip_patterns air (take air_bits after) }
+        ≡ record { answer = accepted (header_for rules.edition f payload) (flips_between air (take air_bits after)); patterns = flip_patterns air (take air_bits after) }
 
     read_back : Restored → HeaderBack
     read_back = rules_then_header (signal_with rules call air) (header_for rules.edition f payload) (flips_between air (take air_bits after)) (flip_patterns air (take air_bits after))
@@ -81,7 +81,7 @@ module _ (rules : Rules) (f : Fields) (payload before after : List ℕ) (written
     header_burst_undone start burst = read_back (burst_restored start burst)
 
 -- "a burst of up to 42 neighbouring bits", under the limit 42
-pub header_burst_of_42 : (edition : Edition) (f : Fields) (payload before after : List ℕ) (written : HeaderWritten edition f payload before Done after)
+pub header_burst_of_42 : (edition : Edition) (f : Fields) (payload before after : List ℕ) (written : HeaderWritten edition f payload before done after)
     (call : Call) (agrees : Agrees (looked_at edition call) (satellite_of f.src_id)) (air : List ℕ) (long : length air ≡ air_bits) (bits : AreBits air)
     (start : ℕ) → Burst 42 start air (take air_bits after) → HeaderBack (listed_rules edition) f payload before after written call (lit≤ tt) agrees air long bits
 header_burst_of_42 edition f payload before after written call agrees air long bits = header_burst_undone (listed_rules edition) f payload before after written call (lit≤ tt) agrees air long bits

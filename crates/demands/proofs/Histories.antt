@@ -10,7 +10,7 @@ use lib.ListN.{length, replicate}
 use Rattle.base.specs.declared.Edition.{Edition}
 use Rattle.base.specs.Checks.{refusal}
 use Rattle.air.specs.Air.{word_count}
-use Rattle.header.specs.declared.Answer.TheVariants.{Refused}
+use Rattle.header.specs.Answers.{refused}
 use Rattle.header_reader.specs.Reading.{patterns_of}
 use Rattle.frame.specs.Frames.{Frame, frame_of}
 use Rattle.source.specs.Lanes.{Role, as_caller, as_responder}
@@ -51,12 +51,12 @@ module _ (own : Edition) (history : List Frame) where
 
   -- one of the other edition is refused with 22, "sheet unchanged, and the frame isn't in its total";
   pub history_other : length (of_edition own history) < full_sheet → (f : Frame) → same_edition (edition_of f) own ≡ false
-      → offer_of own (sheet_of own history) f ≡ record { read = record { answer = Refused (refusal 22 0); patterns = replicate word_count 0 }; sheet = sheet_of own history }
+      → offer_of own (sheet_of own history) f ≡ record { read = record { answer = refused (refusal 22 0); patterns = replicate word_count 0 }; sheet = sheet_of own history }
   history_other = other_before own history
 
   -- and from then on every frame is refused with 17: "a call refused with 17 offers nothing"
   module _ (many : full_sheet ≤ length (of_edition own history)) where
-    pub history_full : (f : Frame) → offer_of own (sheet_of own history) f ≡ record { read = record { answer = Refused (refusal 17 full_sheet); patterns = replicate word_count 0 }; sheet = sheet_of own history }
+    pub history_full : (f : Frame) → offer_of own (sheet_of own history) f ≡ record { read = record { answer = refused (refusal 17 full_sheet); patterns = replicate word_count 0 }; sheet = sheet_of own history }
     history_full = refused_after own history many
 
     -- "A new sheet is the only reset": it is the same sheet after whatever follows

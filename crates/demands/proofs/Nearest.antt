@@ -8,8 +8,7 @@ use Prim.Native.Nat.{ℕ, ◌<◌, ◌≤◌}
 use lib.Bits.{bit_xor}
 use lib.ListN.{get_or}
 use Rattle.word.specs.Words.{word_limit}
-use Rattle.word.specs.Repairs.{Close, repair_of}
-use Rattle.word.specs.declared.Repaired.TheVariants.{Word, Beyond}
+use Rattle.word.specs.Repairs.{Close, found, beyond, repair_of}
 use Rattle.word.proofs.Valids.{valid_one}
 use Rattle.word.proofs.Answer.{repair_above, repair_close, repair_far, repair_word, repair_beyond}
 use Rattle.air.specs.Air.{word_count}
@@ -19,11 +18,11 @@ use Rattle.air.proofs.Restored.{restored_none, restored_words, restored_patterns
 
 -- a word becomes v, "and the flip pattern itself" is where they differ, exactly when v is valid and within three places
 pub repaired_exactly : (w v pattern : ℕ) → w < word_limit
-    → (repair_of w ≡ Word v pattern → Close w v × (pattern ≡ bit_xor w v)) × (Close w v → pattern ≡ bit_xor w v → repair_of w ≡ Word v pattern)
-repaired_exactly w v pattern h = (repair_word w v pattern h, λ close is. repair_close w v h close ∙ ap (Word v) (sym is))
+    → (repair_of w ≡ found v pattern → Close w v × (pattern ≡ bit_xor w v)) × (Close w v → pattern ≡ bit_xor w v → repair_of w ≡ found v pattern)
+repaired_exactly w v pattern h = (repair_word w v pattern h, λ close is. repair_close w v h close ∙ ap (found v) (sym is))
 
 -- "if there is one": it is beyond repair exactly when there is no valid word within three places
-pub beyond_exactly : (w : ℕ) → w < word_limit → (repair_of w ≡ Beyond → (v : ℕ) → Close w v → ⊥) × (((v : ℕ) → Close w v → ⊥) → repair_of w ≡ Beyond)
+pub beyond_exactly : (w : ℕ) → w < word_limit → (repair_of w ≡ beyond → (v : ℕ) → Close w v → ⊥) × (((v : ℕ) → Close w v → ⊥) → repair_of w ≡ beyond)
 beyond_exactly w h = (repair_beyond w h, repair_far w h)
 
 -- "the valid word": there is at most one
@@ -31,7 +30,7 @@ pub one_nearest : (w u v : ℕ) → Close w u → Close w v → u ≡ v
 one_nearest w u v a b = valid_one w a.valid b.valid a.near b.near
 
 -- "A number above 32,767 is no word"
-pub above_beyond : (w : ℕ) → word_limit ≤ w → repair_of w ≡ Beyond
+pub above_beyond : (w : ℕ) → word_limit ≤ w → repair_of w ≡ beyond
 above_beyond w h = sym (repair_above w h)
 
 -- so fourteen words are repaired to those that the rules ask for, and to no others, with the places in which they differ

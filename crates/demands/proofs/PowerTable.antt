@@ -3,7 +3,7 @@
 use mathlib.Core.Path.{◌≡◌, refl, sym, ap, ◌∙◌}
 use mathlib.Core.Bool.{Bool, true, ◌&&◌}
 use mathlib.Core.Logic.{⊎_elim}
-use mathlib.Core.List.{List, flat_map}
+use mathlib.Core.List.{List}
 use Prim.Native.Nat.{ℕ, ◌+◌, ◌-◌, ◌*◌, ◌/◌, ◌%◌, ◌^◌, ◌≤◌, ◌<◌}
 use native.Mathlib.Omega.{arith}
 use lib.Dec.{T, eqb, eqb→eq}
@@ -23,7 +23,7 @@ use Rattle.demands.specs.PowerRows.{power_rows}
 
 -- a sound table for the 34 bytes of a page
 pub power_sound : Sound power_rows page_bytes
-unfolding power_rows flat_map row_in sound_row apart sound_table
+unfolding power_rows sound_row apart sound_table
 power_sound = tt
 
 -- computed once: where each row starts, its width and its order
@@ -31,7 +31,7 @@ is_power : ℕ → Bool
 is_power r = eqb (row_in power_rows r).start (16 * r) && (eqb (row_in power_rows r).width 16 && (row_in power_rows r).low_first)
 
 all_power : T (every row_count is_power)
-unfolding power_rows flat_map row_in is_power
+unfolding power_rows is_power
 all_power = tt
 
 is_true : (b : Bool) → T b → b ≡ true

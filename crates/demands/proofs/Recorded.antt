@@ -6,13 +6,13 @@ use mathlib.Core.List.{List}
 use Prim.Native.Nat.{ℕ, ◌<◌, ◌≤◌}
 use lib.ListN.{length, replicate}
 use Rattle.base.specs.declared.Edition.{Edition}
-use Rattle.base.specs.declared.Written.TheVariants.{Done}
+use Rattle.base.specs.Written.{done}
 use Rattle.air.specs.Air.{word_count, payload_limit}
 use Rattle.air.specs.Flips.{most_flips}
 use Rattle.sign.specs.Calls.{Call, looked_at, Agrees}
 use Rattle.header.specs.declared.Fields.{Fields}
 use Rattle.header.specs.declared.Rules.{Rules}
-use Rattle.header.specs.declared.Answer.TheVariants.{Accepted}
+use Rattle.header.specs.Answers.{accepted}
 use Rattle.header.specs.Fields.{satellite_of}
 use Rattle.header.specs.Writing.{header_for}
 use Rattle.header_reader.proofs.Writing.{written_accepted}
@@ -28,7 +28,7 @@ use Rattle.record_writer.proofs.LongPayload.{long_refused}
 
 -- the writer was handed an edition, some fields, a payload and an output, and wrote; the reader is handed rules of the same edition with a limit of at
 -- most 42, and no call sign that is looked at, or that of the satellite
-module _ (rules : Rules) (allowed : rules.limit ≤ most_flips) (f : Fields) (payload before after : List ℕ) (written : RecordWritten rules.edition f payload before Done after)
+module _ (rules : Rules) (allowed : rules.limit ≤ most_flips) (f : Fields) (payload before after : List ℕ) (written : RecordWritten rules.edition f payload before done after)
     (call : Call) (agrees : Agrees (looked_at rules.edition call) (satellite_of f.src_id)) where
   so : Recorded rules.edition f payload after
   so = recorded rules.edition f payload before after written
@@ -39,7 +39,7 @@ module _ (rules : Rules) (allowed : rules.limit ≤ most_flips) (f : Fields) (pa
 
   -- and it reads as a frame with these fields and no flips
   pub recorded_read : frame_read (frame_with rules call (air_in after) (payload_in (length payload) after))
-      ≡ record { answer = Accepted (header_for rules.edition f payload) 0; patterns = replicate word_count 0 }
+      ≡ record { answer = accepted (header_for rules.edition f payload) 0; patterns = replicate word_count 0 }
   recorded_read =
       ap₂ (λ (air bytes : List ℕ). frame_read (frame_with rules call air bytes)) so.air so.payload_there
       ∙ rules_then_reader (frame_with rules call _ payload) (header_for rules.edition f payload) 0 (replicate word_count 0)

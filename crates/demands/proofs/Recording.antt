@@ -11,13 +11,13 @@ use lib.ListN.{length, drop}
 use Rattle.base.specs.declared.Edition.{Edition}
 use Rattle.base.specs.declared.Refusal.{Refusal}
 use Rattle.base.specs.Checks.{Exactly}
+use Rattle.base.specs.Written.{refused as piece_refused}
 use Rattle.base.specs.Lists.{AreBits}
 use Rattle.base.proofs.First.{NoneApplies}
-use Rattle.header.specs.declared.Answer.TheVariants.{Refused as NotAccepted}
+use Rattle.header.specs.Answers.{refused}
 use Rattle.header_reader.specs.Reading.{limit_above42, not210_long, no_bit}
 use Rattle.marks.specs.declared.Mark.{Mark}
 use Rattle.marks.specs.declared.State.{State}
-use Rattle.marks.specs.declared.Verdict.TheVariants.{Refused}
 use Rattle.marks.specs.Marked.{marked, mark_at, marks_of}
 use Rattle.marks.specs.Pieces.{longest_recording, piece_checks, verdict_of, fresh_state, grown, all_after, all_bits}
 use Rattle.marks.specs.Reports.{MarkOf, Rising, Run}
@@ -58,10 +58,10 @@ pub kept_between : (pieces : List (List ℕ)) → all_after fresh_state pieces �
 kept_between = however_kept
 
 -- 19 and 37 are given exactly when the paper says; "state unchanged in both"
-pub piece_refused_exactly : (total : ℕ) (piece : List ℕ) (why : Refusal) → Exactly (verdict_of total piece) (Refused why) (piece_checks total piece)
+pub piece_refused_exactly : (total : ℕ) (piece : List ℕ) (why : Refusal) → Exactly (verdict_of total piece) (piece_refused why) (piece_checks total piece)
 piece_refused_exactly = piece_exactly
 
-pub refused_leaves : (s : State) (piece : List ℕ) (why : Refusal) (pieces : List (List ℕ)) → verdict_of s.total piece ≡ Refused why → LeftOut s piece why pieces
+pub refused_leaves : (s : State) (piece : List ℕ) (why : Refusal) (pieces : List (List ℕ)) → verdict_of s.total piece ≡ piece_refused why → LeftOut s piece why pieces
 refused_leaves = left_out
 
 -- the checks 20, 1 and 2 never apply to a report
@@ -70,10 +70,10 @@ pub no_20_1_2 : (edition : Edition) (recording : List ℕ) → AreBits recording
 no_20_1_2 = never_20_1_2
 
 -- no call sign is given and "Payloads aren't read here": of no mark at all is the header refused with 23, 24, 7 or 8
-pub no_23_24_7_8 : (edition : Edition) (m : Mark) (why : Refusal) → (mark_read edition m).answer ≡ NotAccepted why → Memᴰ why.number (23 ∷ 24 ∷ 7 ∷ 8 ∷ []) → ⊥
+pub no_23_24_7_8 : (edition : Edition) (m : Mark) (why : Refusal) → (mark_read edition m).answer ≡ refused why → Memᴰ why.number (23 ∷ 24 ∷ 7 ∷ 8 ∷ []) → ⊥
 no_23_24_7_8 = never_23_24_7_8
 
 -- so the refusals of a report are 3, 21, 4, 5 and 6
 pub only_3_21_4_5_6 : (edition : Edition) (recording : List ℕ) → AreBits recording → (m : Mark) → Memᴰ m (marks_of recording) → (why : Refusal)
-    → (mark_read edition m).answer ≡ NotAccepted why → Memᴰ why.number (3 ∷ 21 ∷ 4 ∷ 5 ∷ 6 ∷ [])
+    → (mark_read edition m).answer ≡ refused why → Memᴰ why.number (3 ∷ 21 ∷ 4 ∷ 5 ∷ 6 ∷ [])
 only_3_21_4_5_6 = refused_3_21_4_5_6

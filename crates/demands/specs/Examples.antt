@@ -1,11 +1,10 @@
 -- The paper's marked examples, as a table.
 -- Assumes nothing.
-use Rattle.std.specs.Prelude.{◌≡◌, List, [], ◌∷◌, ℕ, ◌^◌, get_or}
+use Rattle.std.specs.Prelude.{◌≡◌, List, Option, [], ◌∷◌, ℕ, ◌^◌, get_or}
 use Rattle.base.specs.declared.Edition.{Edition}
 use Rattle.base.specs.declared.Edition.TheVariants.{Flown, Corrected}
 use Rattle.word.specs.declared.Repaired.{Repaired}
-use Rattle.word.specs.declared.Repaired.TheVariants.{Word, Beyond}
-use Rattle.word.specs.Repairs.{repair_of}
+use Rattle.word.specs.Repairs.{found, beyond, repair_of}
 use Rattle.crc.specs.Crc.{crc13_of}
 use Rattle.crc.specs.Crc5.{header_bit, crc5_of}
 use Rattle.air.specs.Air.{air_of}
@@ -14,7 +13,7 @@ use Rattle.source.specs.Records.{missed_of}
 
 -- a row of the table: what is worked out, and what it has to be
 pub data Example : Type 0 where
-  word_becomes : ℕ → Repaired → Example
+  word_becomes : ℕ → Option Repaired → Example
   bit_travels_at : ℕ → ℕ → Example
   crc5_of_lem : Edition → ℕ → ℕ → Example
   crc13_of_lem : List ℕ → ℕ → Example
@@ -35,12 +34,12 @@ abbrev pub examples : List Example
 examples =
     -- "word 0 stays, 0 flips; 0x537 and 0x7FFF stay; 0x0007 becomes 0 with 3; 0x0017 becomes 0x537 with 3; 0x000F is beyond repair",
     -- each with its flip pattern
-    word_becomes 0 (Word 0 0)
-    ∷ word_becomes 0x537 (Word 0x537 0)
-    ∷ word_becomes 0x7FFF (Word 0x7FFF 0)
-    ∷ word_becomes 0x0007 (Word 0 0x0007)
-    ∷ word_becomes 0x0017 (Word 0x537 0x0520)
-    ∷ word_becomes 0x000F Beyond
+    word_becomes 0 (found 0 0)
+    ∷ word_becomes 0x537 (found 0x537 0)
+    ∷ word_becomes 0x7FFF (found 0x7FFF 0)
+    ∷ word_becomes 0x0007 (found 0 0x0007)
+    ∷ word_becomes 0x0017 (found 0x537 0x0520)
+    ∷ word_becomes 0x000F beyond
     -- "header bit 0 travels at air bit 196, bit 69 at 153"
     ∷ bit_travels_at 0 196
     ∷ bit_travels_at 69 153

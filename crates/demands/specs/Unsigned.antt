@@ -3,7 +3,7 @@
 use Rattle.std.specs.Prelude.{List, [], ◌∷◌, ◌++◌}
 use Rattle.base.specs.Checks.{Check}
 use Rattle.air.specs.WordRepairs.{flips_in}
-use Rattle.header.specs.declared.Answer.{Answer}
+use Rattle.header.specs.Answers.{Answer}
 use Rattle.header_reader.specs.Reading.{Signal, arrived, repaired_bits, limit_above42, not210_long, no_bit, beyond_repair, flips_above_limit, crc5_differs, unknown_source, unknown_coding}
 use Rattle.frame.specs.Frames.{Frame, repaired_header, payload_checks}
 

@@ -2,7 +2,6 @@
 #![tactic(auto)]
 
 use base::Edition;
-use header::Answer;
 use std::io;
 
 fn main(rt: HostRuntime) -> io::Result<()> {
@@ -12,10 +11,10 @@ fn main(rt: HostRuntime) -> io::Result<()> {
     let len = streams::fill(rt, &mut bytes).end;
     let read = frame::read_frame(header::usual(Edition::Flown), &air[..bits], &bytes[..len]);
     match read.answer {
-        Answer::Accepted { header, flips } => {
-            let letter = char::from(b'A' + header::satellite(header.fields.src_id));
-            println!(rt; "S-NET {letter}, bits repaired: {flips}")
+        Ok(accepted) => {
+            let letter = char::from(b'A' + header::satellite(accepted.header.fields.src_id));
+            println!(rt; "S-NET {letter}, bits repaired: {}", accepted.flips)
         }
-        Answer::Refused(why) => println!(rt; "refused {} {}", why.number, why.place),
+        Err(why) => println!(rt; "refused {} {}", why.number, why.place),
     }
 }

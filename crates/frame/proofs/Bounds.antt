@@ -3,6 +3,7 @@
 use mathlib.Core.Path.{◌≡◌, refl}
 use Prim.Native.Nat.{ℕ, ◌≤◌}
 use lib.ListN.{get_or}
+use Rattle.std.specs.Prelude.{Ok, Err}
 use Rattle.base.specs.declared.Refusal.{Refusal}
 use Rattle.base.proofs.Numbers.{Among, numbers, first_number}
 use Rattle.base.proofs.Sums.{sum_le}
@@ -12,15 +13,14 @@ use Rattle.air.specs.Air.{word_count}
 use Rattle.air.proofs.Answers.{patterns_few}
 use Rattle.air.specs.Flips.{most_flips}
 use Rattle.header.specs.declared.Header.{Header}
-use Rattle.header.specs.declared.Answer.{Answer}
-use Rattle.header.specs.declared.Answer.TheVariants.{Accepted, Refused}
+use Rattle.header.specs.Answers.{Answer, accepted, refused}
 use Rattle.header.specs.Fields.{last_source_of}
 use Rattle.header_reader.specs.Reading.{arrived, repaired_answer, patterns_of}
 use Rattle.header_reader.proofs.GoesOn.{not_refused}
 use Rattle.frame.specs.Frames.{Frame, frame_checks, frame_numbers, frame_of}
 use Rattle.frame.proofs.Rules.{answer_then_rules}
 
-module _ (f : Frame) (h : Header) (k : ℕ) (e : frame_of f ≡ Accepted h k) where
+module _ (f : Frame) (h : Header) (k : ℕ) (e : frame_of f ≡ accepted h k) where
   pub frame_source : h.«fields».src_id ≤ last_source_of f.head.rules.edition
   frame_source = (answer_then_rules f h k e).head.known_source
 
@@ -32,13 +32,13 @@ module _ (f : Frame) (h : Header) (k : ℕ) (e : frame_of f ≡ Accepted h k) wh
 
 -- the number of a refusal; 0 where there is none
 abbrev pub number_in : Answer → ℕ
-number_in (Accepted h k) = 0
-number_in (Refused why) = why.number
+number_in (Ok a) = 0
+number_in (Err why) = why.number
 
 -- the numbers are those of the rows, in their order
 pub rows_numbered : (f : Frame) → numbers number_in (frame_checks f) ≡ frame_numbers
 rows_numbered f = refl
 
-pub frame_number : (f : Frame) (why : Refusal) → frame_of f ≡ Refused why → Among why.number frame_numbers
+pub frame_number : (f : Frame) (why : Refusal) → frame_of f ≡ refused why → Among why.number frame_numbers
 unfolding frame_of
-frame_number f why e = first_number number_in (repaired_answer f.head) (Refused why) (frame_checks f) (not_refused f.head why) e
+frame_number f why e = first_number number_in (repaired_answer f.head) (refused why) (frame_checks f) (not_refused f.head why) e

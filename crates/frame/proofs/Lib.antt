@@ -2,4 +2,3 @@ pub mod Payloads
 pub mod Rules
 pub mod Bounds
 pub mod Writing
-pub mod Recorded

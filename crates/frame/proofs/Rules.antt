@@ -9,7 +9,7 @@ use Rattle.base.specs.Checks.{first, Exactly}
 use Rattle.base.proofs.Exactly.{exactly}
 use Rattle.header.specs.declared.Header.{Header}
 use Rattle.header.specs.declared.Read.{Read}
-use Rattle.header.specs.declared.Answer.TheVariants.{Accepted, Refused}
+use Rattle.header.specs.Answers.{accepted, refused}
 use Rattle.header_reader.specs.Reading.{repaired_answer, patterns_of}
 use Rattle.header.specs.Patterns.{beside}
 use Rattle.header.proofs.Beside.{beside_answer, beside_parts}
@@ -21,19 +21,19 @@ use Rattle.frame.proofs.Payloads.{frame_reads, frame_read_as}
 
 module _ (f : Frame) (h : Header) (k : ℕ) where
   -- what the rules accept, the reader accepts
-  pub rules_then_reader : (patterns : List ℕ) → Accepts f h k patterns → frame_read f ≡ record { answer = Accepted h k; patterns = patterns }
+  pub rules_then_reader : (patterns : List ℕ) → Accepts f h k patterns → frame_read f ≡ record { answer = accepted h k; patterns = patterns }
   unfolding frame_read
   rules_then_reader patterns so =
       ap₂ beside (rules_then_patterns f.head h k patterns so.head)
       (frame_reads f h k (record { header = rules_then_read f.head h k patterns so.head; payload = record { same_length = so.same_length; same_crc13 = so.same_crc13 } }))
 
   -- what the reader accepts, the rules accept
-  pub answer_then_rules : frame_of f ≡ Accepted h k → Accepts f h k (patterns_of f.head)
+  pub answer_then_rules : frame_of f ≡ accepted h k → Accepts f h k (patterns_of f.head)
   answer_then_rules e =
       let so = frame_read_as f h k e in
       record { head = read_then_rules f.head h k so.header; same_length = so.payload.same_length; same_crc13 = so.payload.same_crc13 }
 
-  pub reader_then_rules : (patterns : List ℕ) → frame_read f ≡ record { answer = Accepted h k; patterns = patterns } → Accepts f h k patterns
+  pub reader_then_rules : (patterns : List ℕ) → frame_read f ≡ record { answer = accepted h k; patterns = patterns } → Accepts f h k patterns
   unfolding frame_read
   reader_then_rules patterns e =
       let parts = beside_parts (patterns_of f.head) (frame_of f) h k patterns e in
@@ -53,6 +53,6 @@ pub frame_answer : (f : Frame) (r : Read) → r ≡ frame_read f → r.answer �
 frame_answer f r is = ap (λ (x : Read). x.answer) (is ∙ frame_read_is f) ∙ beside_answer (patterns_of f.head) (frame_of f)
 
 -- "given exactly when": each refusal where its own row applies and no row before it does
-pub refused_exactly : (f : Frame) (why : Refusal) → Exactly (frame_of f) (Refused why) (frame_checks f)
+pub refused_exactly : (f : Frame) (why : Refusal) → Exactly (frame_of f) (refused why) (frame_checks f)
 unfolding frame_of
-refused_exactly f why = exactly (repaired_answer f.head) (Refused why) (frame_checks f) (not_refused f.head why)
+refused_exactly f why = exactly (repaired_answer f.head) (refused why) (frame_checks f) (not_refused f.head why)

@@ -7,8 +7,7 @@ use Rattle.sign.specs.Calls.{Call}
 use Rattle.header.specs.declared.Header.{Header}
 use Rattle.header.specs.declared.Rules.{Rules}
 use Rattle.header.specs.declared.Read.{Read}
-use Rattle.header.specs.declared.Answer.{Answer}
-use Rattle.header.specs.declared.Answer.TheVariants.{Refused}
+use Rattle.header.specs.Answers.{Answer, refused}
 use Rattle.header.specs.Fields.{header_of}
 use Rattle.header_reader.specs.Reading.{Signal, signal_with, signal, signed, repaired_bits, signal_checks, repaired_answer, patterns_of}
 use Rattle.header.specs.Patterns.{beside}
@@ -36,11 +35,11 @@ repaired_header f = header_of (repaired_bits f.head)
 -- THE PAPER'S TABLE, rows 7 and 8: the payload, held against a header
 -- 7, "payload length is not PduLength": PduLength
 abbrev pub other_length : Header → List ℕ → Check Answer
-other_length h payload = check (not (eqb (length payload) h.pdu_length)) (Refused (refusal 7 h.pdu_length))
+other_length h payload = check (not (eqb (length payload) h.pdu_length)) (refused (refusal 7 h.pdu_length))
 
 -- 8, "CRC13 differs": CRC13 worked out
 abbrev pub crc13_differs : Header → List ℕ → Check Answer
-crc13_differs h payload = check (not (eqb (crc13_of payload) h.«crc13»)) (Refused (refusal 8 (crc13_of payload)))
+crc13_differs h payload = check (not (eqb (crc13_of payload) h.«crc13»)) (refused (refusal 8 (crc13_of payload)))
 
 abbrev pub payload_checks : Header → List ℕ → List (Check Answer)
 payload_checks h payload = other_length h payload ∷ crc13_differs h payload ∷ []

@@ -1,5 +1,6 @@
 pub mod Unpacking
 pub mod WordData
+pub mod Answers
 pub mod Beside
 pub mod Ranges
 pub mod Coding

@@ -10,7 +10,7 @@ use lib.Seq.{take_at}
 use borrow.Author.Rules.{rules}
 use borrow.Author.Tests.{ltb-false}
 use Rattle.base.specs.declared.Edition.{Edition}
-use Rattle.base.specs.declared.Written.TheVariants.{Done}
+use Rattle.base.specs.Written.{done}
 use Rattle.base.specs.Lists.{AreBits}
 use Rattle.base.specs.Parts.{joined}
 use Rattle.base.proofs.First.{NoneApplies, first_passes}
@@ -83,10 +83,10 @@ pub record Sent (edition : Edition) (f : Fields) (payload after : List ℕ) : Ty
   pub writable : Writable edition f payload
   pub air : take air_bits after ≡ air_for edition f payload
 
-pub sent : (edition : Edition) (f : Fields) (payload before after : List ℕ) → HeaderWritten edition f payload before Done after → Sent edition f payload after
+pub sent : (edition : Edition) (f : Fields) (payload before after : List ℕ) → HeaderWritten edition f payload before done after → Sent edition f payload after
 unfolding write_header_of
 sent edition f payload before after so = record {
-  writable = write_passed edition f payload (length before) (first_passes Done Done (write_checks edition f payload (length before)) (search (rules, not_done)) (sym so.answered)).1;
+  writable = write_passed edition f payload (length before) (first_passes done done (write_checks edition f payload (length before)) (search (rules, not_done)) (sym so.answered)).1;
   air = rw so.bytes (take_at (air_for edition f payload) (drop air_bits before) air_bits (air_for_length edition f payload));
 }
 

@@ -1,6 +1,6 @@
 -- A header written: refused with 13 to 15, or its 210 bits.
 -- Assumes nothing.
-use Rattle.std.specs.Prelude.{◌≡◌, cond, List, [], ◌∷◌, ◌++◌, ℕ, ◌-◌, ◌^◌, eqb, ltb, length, get_or, drop}
+use Rattle.std.specs.Prelude.{◌≡◌, cond, List, [], ◌∷◌, ◌++◌, ℕ, ◌-◌, ◌^◌, eqb, ltb, length, get_or, drop, Ok, Err}
 use Rattle.base.specs.declared.Edition.{Edition}
 use Rattle.base.specs.Checks.{Check, check, first, refusal}
 use Rattle.base.specs.Lists.{lowest}
@@ -10,8 +10,7 @@ use Rattle.crc.specs.Crc5.{crc5_of}
 use Rattle.air.specs.Air.{air_bits, payload_limit, air_of}
 use Rattle.header.specs.declared.Fields.{Fields}
 use Rattle.header.specs.declared.Header.{Header}
-use Rattle.base.specs.declared.Written.{Written}
-use Rattle.base.specs.declared.Written.TheVariants.{Done, Refused}
+use Rattle.base.specs.Written.{Written, done, refused}
 use Rattle.header.specs.Fields.{widths, field_count, last_source_of, last_coding, values_of, coded_of}
 
 -- the most that field k may be: "widths bound it, also SrcId to 7 and AiTypeSrc to 3", which are fields 0 and 5; under the corrected edition
@@ -26,21 +25,21 @@ first_over edition values = lowest field_count (λ k. ltb (most_of edition k) (g
 -- THE PAPER'S TABLE, rows 13 to 15
 -- 13, "output under 210": its length
 abbrev pub short_output : ℕ → Check Written
-short_output room = check (ltb room air_bits) (Refused (refusal 13 room))
+short_output room = check (ltb room air_bits) (refused (refusal 13 room))
 
 -- 14, "a field out of range": the lowest
 abbrev pub out_of_range : Edition → Fields → Check Written
-out_of_range edition f = check (ltb (first_over edition (values_of f)) field_count) (Refused (refusal 14 (first_over edition (values_of f))))
+out_of_range edition f = check (ltb (first_over edition (values_of f)) field_count) (refused (refusal 14 (first_over edition (values_of f))))
 
 -- 15, "payload over 1,023": its length
 abbrev pub long_payload : List ℕ → Check Written
-long_payload payload = check (ltb payload_limit (length payload)) (Refused (refusal 15 (length payload)))
+long_payload payload = check (ltb payload_limit (length payload)) (refused (refusal 15 (length payload)))
 
 abbrev pub write_checks : Edition → Fields → List ℕ → ℕ → List (Check Written)
 write_checks edition f payload room = short_output room ∷ out_of_range edition f ∷ long_payload payload ∷ []
 
 unfoldable pub write_header_of : Edition → Fields → List ℕ → ℕ → Written
-write_header_of edition f payload room = first Done (write_checks edition f payload room)
+write_header_of edition f payload room = first done (write_checks edition f payload room)
 
 -- "The writer works out PduLength and both checksums": the header's bits, with some CRC5
 abbrev pub bits_with : Fields → List ℕ → ℕ → ℕ
@@ -65,8 +64,8 @@ air_for edition f payload = air_of (coded_of (bits_for edition f payload))
 
 -- the output afterwards: "bytes past 210 keep what they held", and on a refusal all do
 abbrev pub after_write : Written → Edition → Fields → List ℕ → List ℕ → List ℕ
-after_write Done edition f payload out = air_for edition f payload ++ drop air_bits out
-after_write (Refused why) edition f payload out = out
+after_write (Ok u) edition f payload out = air_for edition f payload ++ drop air_bits out
+after_write (Err why) edition f payload out = out
 
 -- what a call of the writer leaves: its answer, and every byte of the output
 pub record HeaderWritten (edition : Edition) (f : Fields) (payload before : List ℕ) (answer : Written) (after : List ℕ) : Type 0 where

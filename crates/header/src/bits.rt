@@ -8,6 +8,7 @@ use crate::{Fields, Header};
 use word::DATA_BIT;
 
 // The fields of header bits 0 to 29, `hi`, and 30 to 69, `lo`.
+// Two numbers and no `HeaderBits`: it takes any two, and asks nothing of them.
 pub fn unpack(hi: u64, lo: u64) -> Header
     ensures { result ≡ halves_header hi lo }
 {
@@ -47,10 +48,8 @@ pub fn collect(words: &[u16]) -> u64
     ensures { result ≡ joined (replicate (length words.now) 5) (map data_of words.now) }
 {
     let mut number: u64 = 0;
-    let mut i = 0;
-    while i < words.len() {
-        number = number * 32 + data_of(words[i]);
-        i += 1;
+    for &word in words {
+        number = number * 32 + data_of(word);
     }
     number
 }

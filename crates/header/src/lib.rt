@@ -4,7 +4,7 @@
 mod bits;
 
 ghost use Rattle.std.specs.Prelude.{◌≡◌, ◌+◌};
-ghost use Rattle.header.specs.Fields.{last_source_of, satellite_of, radio_of};
+ghost use Rattle.header.specs.Fields.{fields_from, values_of, last_source_of, satellite_of, radio_of};
 ghost use Rattle.header.specs.Patterns.{beside};
 ghost use Rattle.header.specs.Rules.{usual_rules};
 
@@ -39,6 +39,52 @@ pub struct Fields {
     pub bch_rq: u8,
     pub hailing: u8,
     pub ud_fl1: u8,
+}
+
+impl Fields {
+    // Fourteen values, in the order of the fields.
+    pub fn from_values(values: [u8; FIELD_COUNT]) -> Fields
+        ensures { result ≡ fields_from values }
+    {
+        Fields {
+            src_id: values[0],
+            dst_id: values[1],
+            fr_cnt_tx: values[2],
+            fr_cnt_rx: values[3],
+            snr: values[4],
+            ai_type_src: values[5],
+            ai_type_dst: values[6],
+            dfc_id: values[7],
+            caller: values[8],
+            arq: values[9],
+            pdu_type_id: values[10],
+            bch_rq: values[11],
+            hailing: values[12],
+            ud_fl1: values[13],
+        }
+    }
+
+    // The values of fields 0 to 13.
+    pub fn values(self) -> [u8; FIELD_COUNT]
+        ensures { result ≡ values_of self }
+    {
+        [
+            self.src_id,
+            self.dst_id,
+            self.fr_cnt_tx,
+            self.fr_cnt_rx,
+            self.snr,
+            self.ai_type_src,
+            self.ai_type_dst,
+            self.dfc_id,
+            self.caller,
+            self.arq,
+            self.pdu_type_id,
+            self.bch_rq,
+            self.hailing,
+            self.ud_fl1,
+        ]
+    }
 }
 
 // All 17 fields.
@@ -80,12 +126,15 @@ pub fn last_source(edition: Edition) -> u8
     }
 }
 
-// The repaired header and the number of flips, or the refusal: what is answered of a header alone, and of a whole frame.
+// What an accepted header or frame tells: the repaired header and the number of flips.
 #[derive(Clone, Copy)]
-pub enum Answer {
-    Accepted { header: Header, flips: u32 },
-    Refused(Refusal),
+pub struct Accepted {
+    pub header: Header,
+    pub flips: u32,
 }
+
+// What is answered of a header alone, and of a whole frame: what it tells, or the refusal.
+pub type Answer = Result<Accepted, Refusal>;
 
 // An answer, and beside it the flip pattern of each word: bit i of pattern j is set where position i of word j was flipped. The
 // accepted answer's flips are the patterns' ones; beside a refusal all fourteen are 0.
@@ -100,12 +149,9 @@ pub fn with_patterns(answer: Answer, patterns: [u16; WORD_COUNT]) -> Read
     ensures { result ≡ beside patterns answer }
 {
     match answer {
-        Answer::Accepted { header, flips } => Read {
-            answer: Answer::Accepted { header, flips },
-            patterns,
-        },
-        Answer::Refused(why) => Read {
-            answer: Answer::Refused(why),
+        Ok(_) => Read { answer, patterns },
+        Err(_) => Read {
+            answer,
             patterns: [0; WORD_COUNT],
         },
     }

@@ -16,11 +16,12 @@ use Rattle.sign.specs.Calls.{Call, looked_at, other_at}
 use Rattle.sign.proofs.Agreeing.{tests_agree, agrees_fault, agrees_other}
 use Rattle.header.specs.declared.Header.{Header}
 use Rattle.header.specs.declared.Read.{Read}
-use Rattle.header.specs.declared.Answer.TheVariants.{Accepted}
+use Rattle.header.specs.Answers.{accepted}
 use Rattle.header.specs.Fields.{satellite_of, header_of, bits_of_words}
 use Rattle.header_reader.specs.Reading.{Signal, arrived, repaired_bits, air_checks, header_checks, signal_checks, repaired_answer, read_header_of, patterns_of, header_read}
 use Rattle.header.specs.Patterns.{beside}
 use Rattle.header_reader.specs.Accepting.{AcceptsHeader}
+use Rattle.header.proofs.Answers.{same_header, same_flips}
 use Rattle.header.proofs.Beside.{beside_parts}
 use Rattle.header_reader.proofs.Passed.{air_passed, header_passed, HeaderPassed}
 use Rattle.header_reader.proofs.GoesOn.{ReadAs, read_as}
@@ -46,8 +47,8 @@ module _ (s : Signal) (h : Header) (k : ℕ) where
   pub read_then_rules : ReadAs s h k → AcceptsHeader s h k (patterns_of s)
   read_then_rules so =
       let n : ℕ = repaired_bits s in
-      let made : header_of n ≡ h = cc so.is in
-      let flips : flips_in (arrived s) ≡ k = cc so.is in
+      let made : header_of n ≡ h = same_header (header_of n) h (flips_in (arrived s)) k so.is in
+      let flips : flips_in (arrived s) ≡ k = same_flips (header_of n) h (flips_in (arrived s)) k so.is in
       let parts = none_split (air_checks s) (header_checks s.rules s.call (flips_in (arrived s)) n) so.passed in
       let air = air_passed s parts.0 in
       let header = header_passed s.rules s.call (flips_in (arrived s)) n parts.1 in
@@ -70,13 +71,13 @@ module _ (s : Signal) (h : Header) (k : ℕ) where
       }
 
   -- THE SAME of what is read
-  pub rules_then_header : (patterns : List ℕ) → AcceptsHeader s h k patterns → header_read s ≡ record { answer = Accepted h k; patterns = patterns }
+  pub rules_then_header : (patterns : List ℕ) → AcceptsHeader s h k patterns → header_read s ≡ record { answer = accepted h k; patterns = patterns }
   unfolding header_read read_header_of
   rules_then_header patterns so =
       let read = rules_then_read patterns so in
       ap₂ beside (rules_then_patterns patterns so) (first_none (repaired_answer s) (signal_checks s) read.passed ∙ read.is)
 
-  pub header_then_rules : (patterns : List ℕ) → header_read s ≡ record { answer = Accepted h k; patterns = patterns } → AcceptsHeader s h k patterns
+  pub header_then_rules : (patterns : List ℕ) → header_read s ≡ record { answer = accepted h k; patterns = patterns } → AcceptsHeader s h k patterns
   unfolding header_read
   header_then_rules patterns e =
       let parts = beside_parts (patterns_of s) (read_header_of s) h k patterns e in
@@ -85,6 +86,6 @@ module _ (s : Signal) (h : Header) (k : ℕ) where
 -- and there is one such header, one such number of flips, and one such list of patterns
 pub one_header : (s : Signal) (h g : Header) (k m : ℕ) (p q : List ℕ) → AcceptsHeader s h k p → AcceptsHeader s g m q → (h ≡ g) × (k ≡ m) × (p ≡ q)
 one_header s h g k m p q a b =
-    let both : ◌≡◌ {A = Read} (record { answer = Accepted h k; patterns = p }) (record { answer = Accepted g m; patterns = q }) = sym (rules_then_header s h k p a) ∙ rules_then_header s g m q b in
-    let answers : Accepted h k ≡ Accepted g m = ap (λ (r : Read). r.answer) both in
-    (cc, cc, ap (λ (r : Read). r.patterns) both)
+    let both : ◌≡◌ {A = Read} (record { answer = accepted h k; patterns = p }) (record { answer = accepted g m; patterns = q }) = sym (rules_then_header s h k p a) ∙ rules_then_header s g m q b in
+    let answers : accepted h k ≡ accepted g m = ap (λ (r : Read). r.answer) both in
+    (same_header h g k m answers, same_flips h g k m answers, ap (λ (r : Read). r.patterns) both)

@@ -3,11 +3,11 @@
 use Rattle.base.specs.declared.Refusal.{Refusal}
 use Rattle.base.specs.Checks.{Exactly}
 use Rattle.base.proofs.Exactly.{exactly}
-use Rattle.header.specs.declared.Answer.TheVariants.{Refused}
+use Rattle.header.specs.Answers.{refused}
 use Rattle.header_reader.specs.Reading.{Signal, signal_checks, repaired_answer, read_header_of}
 use Rattle.header_reader.proofs.GoesOn.{not_refused}
 
 -- 20, 1, 2, 23, 3, 21, 4, 5, 24, 6
-pub read_exactly : (s : Signal) (why : Refusal) → Exactly (read_header_of s) (Refused why) (signal_checks s)
+pub read_exactly : (s : Signal) (why : Refusal) → Exactly (read_header_of s) (refused why) (signal_checks s)
 unfolding read_header_of
-read_exactly s why = exactly (repaired_answer s) (Refused why) (signal_checks s) (not_refused s why)
+read_exactly s why = exactly (repaired_answer s) (refused why) (signal_checks s) (not_refused s why)

@@ -31,8 +31,7 @@ use Rattle.sign.specs.Calls.{absent}
 use Rattle.header.specs.declared.Fields.{Fields}
 use Rattle.header.specs.declared.Header.{Header}
 use Rattle.header.specs.declared.Rules.{Rules}
-use Rattle.header.specs.declared.Answer.{Answer}
-use Rattle.header.specs.declared.Answer.TheVariants.{Accepted, Refused}
+use Rattle.header.specs.Answers.{Answer, accepted, refused}
 use Rattle.header.specs.Fields.{widths, field_count, values_of, last_source_of, header_of, coded_of}
 use Rattle.header_reader.specs.Reading.{Signal, signal, arrived, repaired_bits, air_checks, unknown_source, header_checks, signal_checks, repaired_answer, read_header_of}
 use Rattle.header.specs.Writing.{most_of, first_over, bits_with, bits_for, header_for, air_for}
@@ -68,7 +67,7 @@ known_everywhere Flown src h = h
 known_everywhere Corrected src h = omega arith
 
 -- no flips, and a CRC5 that differs
-judged_4 : (a : Answer) (rules : Rules) (n crc : ℕ) → crc ≡ crc5_of rules.edition n → (crc ≡ (header_of n).«crc5» → ⊥) → first a (header_checks rules absent 0 n) ≡ Refused (refusal 4 crc)
+judged_4 : (a : Answer) (rules : Rules) (n crc : ℕ) → crc ≡ crc5_of rules.edition n → (crc ≡ (header_of n).«crc5» → ⊥) → first a (header_checks rules absent 0 n) ≡ refused (refusal 4 crc)
 judged_4 a rules n crc is apart = rw (le-ltb rules.limit 0 zero-le, ← is, ne_eqb crc (header_of n).«crc5» apart)
 
 -- so fields that one edition lets be written, the other does too
@@ -114,7 +113,7 @@ module _ (edition : Edition) (f : Fields) (payload : List ℕ) (ok : Writable ed
     same_header : counted_flown n ≡ n → header_for rules.edition f payload ≡ header_for edition f payload
     same_header none = rw (same_crc5 none)
 
-    pub reads_same : ((k : ℕ) → 32 ≤ k → k < 36 → header_bit (bits_for edition f payload) k ≡ 0) → read_header_of (signal rules (air_for edition f payload)) ≡ Accepted (header_for edition f payload) 0
+    pub reads_same : ((k : ℕ) → 32 ≤ k → k < 36 → header_bit (bits_for edition f payload) k ≡ 0) → read_header_of (signal rules (air_for edition f payload)) ≡ accepted (header_for edition f payload) 0
     unfolding read_header_of
     reads_same zeros =
         let none : counted_flown n ≡ n = none_of_four n (written_lt edition f payload ok) zeros in
@@ -145,7 +144,7 @@ module _ (edition : Edition) (f : Fields) (payload : List ℕ) (ok : Writable ed
     carried = ap (λ (h : Header). h.«crc5») (written_header edition f payload ok) ∙ sym (written_crc5 edition f payload ok)
 
     pub refused_4 : (rules.edition ≡ edition → ⊥) → (k : ℕ) → 32 ≤ k → k < 36 → header_bit (bits_for edition f payload) k ≡ 1
-        → read_header_of (signal rules (air_for edition f payload)) ≡ Refused (refusal 4 (crc5_of rules.edition (bits_for edition f payload)))
+        → read_header_of (signal rules (air_for edition f payload)) ≡ refused (refusal 4 (crc5_of rules.edition (bits_for edition f payload)))
     unfolding read_header_of
     refused_4 other k from to set =
         let apart : crc5_of rules.edition n ≡ (header_of n).«crc5» → ⊥ =

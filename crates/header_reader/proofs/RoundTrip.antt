@@ -18,7 +18,7 @@ use Rattle.sign.proofs.Agreeing.{agrees_fault, agrees_other}
 use Rattle.header.specs.declared.Fields.{Fields}
 use Rattle.header.specs.declared.Header.{Header}
 use Rattle.header.specs.declared.Rules.{Rules}
-use Rattle.header.specs.declared.Answer.TheVariants.{Accepted}
+use Rattle.header.specs.Answers.{accepted}
 use Rattle.header.specs.Fields.{values_of, satellite_of, header_of, bits_of_words, coded_of}
 use Rattle.header_reader.specs.Reading.{header_checks, Signal, air_checks, arrived, repaired_answer, repaired_bits, signal_with}
 use Rattle.header.specs.Writing.{bits_for, header_for, air_for}
@@ -46,8 +46,8 @@ module _ (s : Signal) (valid : List ℕ) (long : length s.air ≡ air_bits) (bit
   pub restored_bits : repaired_bits s ≡ bits_of_words valid
   restored_bits = ap bits_of_words (restored_words (arrived s) (words_lt s.air bits) valid close)
 
-  pub restored_answer : repaired_answer s ≡ Accepted (header_of (bits_of_words valid)) (distances (arrived s) valid)
-  restored_answer = ap₂ (λ (n k : ℕ). Accepted (header_of n) k) restored_bits (restored_flips (arrived s) (words_lt s.air bits) valid close)
+  pub restored_answer : repaired_answer s ≡ accepted (header_of (bits_of_words valid)) (distances (arrived s) valid)
+  restored_answer = ap₂ (λ (n k : ℕ). accepted (header_of n) k) restored_bits (restored_flips (arrived s) (words_lt s.air bits) valid close)
 
   -- so where no row stands against these bits, the header is accepted
   pub restored : HeaderPassed s.rules s.call (distances (arrived s) valid) (bits_of_words valid) → ReadAs s (header_of (bits_of_words valid)) (distances (arrived s) valid)

@@ -1,7 +1,8 @@
 -- A header alone, read: refused with 20, 1, 2, 23, 3, 21, 4, 5, 24, 6, or the repaired header and the number of flips.
 -- Assumes nothing.
-use Rattle.std.specs.Prelude.{not, List, [], ◌∷◌, ◌++◌, ℕ, eqb, ltb, length}
+use Rattle.std.specs.Prelude.{not, List, [], ◌∷◌, ◌++◌, ℕ, eqb, ltb, length, replicate, Result, Ok, Err}
 use Rattle.base.specs.declared.Edition.{Edition}
+use Rattle.base.specs.declared.Refusal.{Refusal}
 use Rattle.base.specs.Checks.{Check, check, first, refusal}
 use Rattle.crc.specs.Crc5.{crc5_of}
 use Rattle.air.specs.Air.{word_count, air_bits, words_of, first_no_bit}
@@ -10,9 +11,9 @@ use Rattle.air.specs.Flips.{most_flips}
 use Rattle.sign.specs.CallSigns.{sign_width}
 use Rattle.sign.specs.Calls.{Call, absent, given, looked_at, fault_at, other_at}
 use Rattle.header.specs.declared.Rules.{Rules}
-use Rattle.header.specs.declared.Answer.{Answer}
-use Rattle.header.specs.declared.Answer.TheVariants.{Accepted, Refused}
+use Rattle.header.specs.Answers.{Answer, accepted, refused}
 use Rattle.header.specs.declared.Read.{Read}
+use Rattle.header.specs.declared.Accepted.{Accepted}
 use Rattle.header.specs.Fields.{last_source_of, last_coding, satellite_of, header_of, bits_of_words}
 use Rattle.header.specs.Patterns.{beside}
 
@@ -42,24 +43,24 @@ repaired_bits s = bits_of_words (repaired_of (arrived s))
 -- THE PAPER'S TABLE, rows 20, 1, 2, 23 and 3: the limit, the air bits and the call sign bits
 -- 20, "limit above 42", which is most_flips: the limit
 abbrev pub limit_above42 : Signal → Check Answer
-limit_above42 s = check (ltb most_flips s.rules.limit) (Refused (refusal 20 s.rules.limit))
+limit_above42 s = check (ltb most_flips s.rules.limit) (refused (refusal 20 s.rules.limit))
 
 -- 1, "header slice is not 210 long": its length
 abbrev pub not210_long : Signal → Check Answer
-not210_long s = check (not (eqb (length s.air) air_bits)) (Refused (refusal 1 (length s.air)))
+not210_long s = check (not (eqb (length s.air) air_bits)) (refused (refusal 1 (length s.air)))
 
 -- 2, "an element is above 1": lowest index
 abbrev pub no_bit : Signal → Check Answer
-no_bit s = check (ltb (first_no_bit s.air) air_bits) (Refused (refusal 2 (first_no_bit s.air)))
+no_bit s = check (ltb (first_no_bit s.air) air_bits) (refused (refusal 2 (first_no_bit s.air)))
 
 -- 23, "not 48 elements or one above 1": "the length, or the first bad index"
 abbrev pub no_call_sign : Signal → Check Answer
 no_call_sign s =
-    check (not (eqb (fault_at (looked_at s.rules.edition s.call)) sign_width)) (Refused (refusal 23 (fault_at (looked_at s.rules.edition s.call))))
+    check (not (eqb (fault_at (looked_at s.rules.edition s.call)) sign_width)) (refused (refusal 23 (fault_at (looked_at s.rules.edition s.call))))
 
 -- 3, "a word is beyond repair": lowest word
 abbrev pub beyond_repair : Signal → Check Answer
-beyond_repair s = check (ltb (first_beyond (arrived s)) word_count) (Refused (refusal 3 (first_beyond (arrived s))))
+beyond_repair s = check (ltb (first_beyond (arrived s)) word_count) (refused (refusal 3 (first_beyond (arrived s))))
 
 abbrev pub air_checks : Signal → List (Check Answer)
 air_checks s = limit_above42 s ∷ not210_long s ∷ no_bit s ∷ no_call_sign s ∷ beyond_repair s ∷ []
@@ -67,24 +68,24 @@ air_checks s = limit_above42 s ∷ not210_long s ∷ no_bit s ∷ no_call_sign s
 -- rows 21, 4, 5, 24 and 6: the repaired header, after so many flips, whose bits are n
 -- 21, "flips above the limit": the flips
 abbrev pub flips_above_limit : Rules → ℕ → Check Answer
-flips_above_limit rules flips = check (ltb rules.limit flips) (Refused (refusal 21 flips))
+flips_above_limit rules flips = check (ltb rules.limit flips) (refused (refusal 21 flips))
 
 -- 4, "CRC5 differs": CRC5 worked out
 abbrev pub crc5_differs : Edition → ℕ → Check Answer
-crc5_differs edition n = check (not (eqb (crc5_of edition n) (header_of n).«crc5»)) (Refused (refusal 4 (crc5_of edition n)))
+crc5_differs edition n = check (not (eqb (crc5_of edition n) (header_of n).«crc5»)) (refused (refusal 4 (crc5_of edition n)))
 
 -- 5, "SrcId above 7": SrcId. Under the corrected edition "check 5 isn't made": no SrcId is above 127 (`corrected_no_5`)
 abbrev pub unknown_source : Edition → ℕ → Check Answer
-unknown_source edition n = check (ltb (last_source_of edition) (header_of n).«fields».src_id) (Refused (refusal 5 (header_of n).«fields».src_id))
+unknown_source edition n = check (ltb (last_source_of edition) (header_of n).«fields».src_id) (refused (refusal 5 (header_of n).«fields».src_id))
 
 -- 24, "disagreement" of what is looked at: SrcId
 abbrev pub other_call_sign : Call → ℕ → Check Answer
 other_call_sign call n =
-    check (ltb (other_at call (satellite_of (header_of n).«fields».src_id)) sign_width) (Refused (refusal 24 (header_of n).«fields».src_id))
+    check (ltb (other_at call (satellite_of (header_of n).«fields».src_id)) sign_width) (refused (refusal 24 (header_of n).«fields».src_id))
 
 -- 6, "AiTypeSrc above 3": AiTypeSrc
 abbrev pub unknown_coding : ℕ → Check Answer
-unknown_coding n = check (ltb last_coding (header_of n).«fields».ai_type_src) (Refused (refusal 6 (header_of n).«fields».ai_type_src))
+unknown_coding n = check (ltb last_coding (header_of n).«fields».ai_type_src) (refused (refusal 6 (header_of n).«fields».ai_type_src))
 
 abbrev pub header_checks : Rules → Call → ℕ → ℕ → List (Check Answer)
 header_checks rules call flips n =
@@ -97,7 +98,7 @@ header_checks rules call flips n =
 
 -- what is answered of it
 abbrev pub judged_of : Rules → Call → ℕ → ℕ → Answer
-judged_of rules call flips n = first (Accepted (header_of n) flips) (header_checks rules call flips n)
+judged_of rules call flips n = first (accepted (header_of n) flips) (header_checks rules call flips n)
 
 -- all ten, in the paper's order
 abbrev pub signal_checks : Signal → List (Check Answer)
@@ -105,7 +106,7 @@ signal_checks s = air_checks s ++ header_checks s.rules s.call (flips_in (arrive
 
 -- what is answered where no row applies
 abbrev pub repaired_answer : Signal → Answer
-repaired_answer s = Accepted (header_of (repaired_bits s)) (flips_in (arrived s))
+repaired_answer s = accepted (header_of (repaired_bits s)) (flips_in (arrived s))
 
 -- "in this order; the first that applies is given"
 unfoldable pub read_header_of : Signal → Answer
@@ -118,3 +119,8 @@ patterns_of s = patterns_in (arrived s)
 -- a header alone, read
 unfoldable pub header_read : Signal → Read
 header_read s = beside (patterns_of s) (read_header_of s)
+
+-- what was read, from what an accepted header tells with the patterns of its words, or from the refusal
+abbrev pub read_from : Result (Accepted × List ℕ) Refusal → Read
+read_from (Ok told) = beside told.1 (Ok told.0)
+read_from (Err why) = beside (replicate word_count 0) (Err why)

@@ -15,7 +15,7 @@ use Rattle.text.proofs.FormParts.{form_three, put_forms}
 use Rattle.header.specs.declared.Header.{Header}
 use Rattle.air.specs.WordRepairs.{worst_of}
 use Rattle.header.specs.declared.Read.{Read}
-use Rattle.header.specs.declared.Answer.TheVariants.{Accepted, Refused}
+use Rattle.header.specs.Answers.{accepted, refused}
 use Rattle.header.specs.Fields.{radio_of}
 use Rattle.lines.specs.declared.Tally.{Tally}
 use Rattle.lines.specs.Tallies.{total_of}
@@ -29,11 +29,11 @@ module _ {l m : List ℕ} {at next : ℕ} where
   put_title put = put
 
   -- the line of an accepted record, and of a refused one
-  pub line_accepted : (edition : Edition) (k bytes : ℕ) (r : Read) (h : Header) (flips worst : ℕ) → r.answer ≡ Accepted h flips → worst ≡ worst_of r.patterns
+  pub line_accepted : (edition : Edition) (k bytes : ℕ) (r : Read) (h : Header) (flips worst : ℕ) → r.answer ≡ accepted h flips → worst ≡ worst_of r.patterns
       → Put l at (accepted_line edition k h.«fields».src_id h.«fields».fr_cnt_tx flips worst (ascii " bytes ") bytes) m next → Put l at (line_of edition k bytes r) m next
   line_accepted edition k bytes r h flips worst e found put = rw (e, ← found) put
 
-  pub line_refused : (edition : Edition) (k bytes : ℕ) (r : Read) (why : Refusal) → r.answer ≡ Refused why → Put l at (refused_line k why) m next → Put l at (line_of edition k bytes r) m next
+  pub line_refused : (edition : Edition) (k bytes : ℕ) (r : Read) (why : Refusal) → r.answer ≡ refused why → Put l at (refused_line k why) m next → Put l at (line_of edition k bytes r) m next
   line_refused edition k bytes r why e put = rw e put
 
   -- the closing without `cut`

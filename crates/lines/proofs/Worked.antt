@@ -1,10 +1,10 @@
 -- The papers' worked lines.
 -- Assumes nothing.
+use Rattle.std.specs.Prelude.{None, Some}
 use mathlib.Core.Path.{◌≡◌, refl}
 use Rattle.base.specs.declared.Edition.TheVariants.{Flown, Corrected}
 use Rattle.text.specs.Text.{ascii, decimal_of}
 use Rattle.text.specs.Forms.{form_of}
-use Rattle.lines.specs.declared.Stop.TheVariants.{Nowhere, Stopped}
 use Rattle.lines.specs.Lines.{accepted_line}
 use Rattle.lines.specs.Recordings.{stop_of, last_of, ending_of}
 
@@ -23,10 +23,10 @@ pub one_report : accepted_line Flown 1042 0 14 0 0 (ascii " length ") 62 ≡ asc
 unfolding form_of decimal_of
 one_report = refl
 
-pub one_stop : stop_of (Stopped (record { number = 19; place = 77 })) ≡ ascii "stopped 19 77\n"
+pub one_stop : stop_of (Some (record { number = 19; place = 77 })) ≡ ascii "stopped 19 77\n"
 unfolding form_of decimal_of
 one_stop = refl
 
-pub one_ending : ending_of 34560000 (record { accepted = 1; refused = 1 }) Nowhere ≡ ascii "bits 34560000 headers 2 accepted 1 refused 1\n"
+pub one_ending : ending_of 34560000 (record { accepted = 1; refused = 1 }) None ≡ ascii "bits 34560000 headers 2 accepted 1 refused 1\n"
 unfolding last_of form_of decimal_of
 one_ending = refl

@@ -1,6 +1,6 @@
 -- The text of every line: "Numbers are decimal and every line ends with one line feed."
 -- Assumes nothing.
-use Rattle.std.specs.Prelude.{Bool, cond, List, [], ◌∷◌, ◌++◌, ℕ, ◌+◌}
+use Rattle.std.specs.Prelude.{Bool, cond, List, [], ◌∷◌, ◌++◌, ℕ, ◌+◌, Ok, Err}
 use Rattle.base.specs.declared.Refusal.{Refusal}
 use Rattle.base.specs.declared.Edition.{Edition}
 use Rattle.base.specs.declared.Edition.TheVariants.{Flown, Corrected}
@@ -8,8 +8,7 @@ use Rattle.text.specs.Text.{ascii}
 use Rattle.text.specs.Forms.{form_of}
 use Rattle.air.specs.WordRepairs.{worst_of}
 use Rattle.header.specs.declared.Read.{Read}
-use Rattle.header.specs.declared.Answer.{Answer}
-use Rattle.header.specs.declared.Answer.TheVariants.{Accepted, Refused}
+use Rattle.header.specs.Answers.{Answer}
 use Rattle.header.specs.Fields.{satellite_of, radio_of}
 use Rattle.lines.specs.declared.Tally.{Tally}
 use Rattle.lines.specs.Tallies.{total_of}
@@ -35,8 +34,8 @@ refused_line k why = form_of (ascii "% refused % %\n") (k ∷ why.number ∷ why
 
 -- the line of record k with so many payload bytes: "Each record's line opens with its number, from 0"
 abbrev pub line_for : Edition → ℕ → ℕ → List ℕ → Answer → List ℕ
-line_for edition k bytes patterns (Accepted h flips) = accepted_line edition k h.«fields».src_id h.«fields».fr_cnt_tx flips (worst_of patterns) (ascii " bytes ") bytes
-line_for edition k bytes patterns (Refused why) = refused_line k why
+line_for edition k bytes patterns (Ok a) = accepted_line edition k a.header.«fields».src_id a.header.«fields».fr_cnt_tx a.flips (worst_of patterns) (ascii " bytes ") bytes
+line_for edition k bytes patterns (Err why) = refused_line k why
 
 abbrev pub line_of : Edition → ℕ → ℕ → Read → List ℕ
 line_of edition k bytes read = line_for edition k bytes read.patterns read.answer

@@ -1,8 +1,7 @@
 -- What a listing counts of its records, or a search of its headers, and what an answer adds to that.
 -- Assumes nothing.
-use Rattle.std.specs.Prelude.{ℕ, ◌+◌}
-use Rattle.header.specs.declared.Answer.{Answer}
-use Rattle.header.specs.declared.Answer.TheVariants.{Accepted, Refused}
+use Rattle.std.specs.Prelude.{ℕ, ◌+◌, Ok, Err}
+use Rattle.header.specs.Answers.{Answer}
 use Rattle.lines.specs.declared.Tally.{Tally}
 
 -- before the first record
@@ -19,5 +18,5 @@ most_counted = 4294967295
 
 -- an answer adds one to the accepted or to the refused
 abbrev pub tally_after : Tally → Answer → Tally
-tally_after tally (Accepted h flips) = record { accepted = tally.accepted + 1; refused = tally.refused }
-tally_after tally (Refused why) = record { accepted = tally.accepted; refused = tally.refused + 1 }
+tally_after tally (Ok a) = record { accepted = tally.accepted + 1; refused = tally.refused }
+tally_after tally (Err why) = record { accepted = tally.accepted; refused = tally.refused + 1 }

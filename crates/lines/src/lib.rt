@@ -18,11 +18,7 @@ pub struct Tally {
 }
 
 // Why a search stopped before the end of its input, if it did.
-#[derive(Clone, Copy)]
-pub enum Stop {
-    Nowhere,
-    Stopped(Refusal),
-}
+pub type Stop = Option<Refusal>;
 
 // All of them: what the last line says was heard.
 pub fn total(tally: Tally) -> u64
@@ -37,14 +33,14 @@ pub fn count(tally: Tally, answer: Answer) -> Tally
     ensures { result ≡ tally_after tally answer }
 {
     match answer {
-        Answer::Accepted { header, flips } => {
+        Ok(_) => {
             let accepted = tally.accepted + 1;
             Tally {
                 accepted,
                 refused: tally.refused,
             }
         }
-        Answer::Refused(why) => {
+        Err(_) => {
             let refused = tally.refused + 1;
             Tally {
                 accepted: tally.accepted,
@@ -196,23 +192,23 @@ pub fn put_line(
     let answer = read.answer;
     let patterns = read.patterns;
     match answer {
-        Answer::Accepted { header, flips } => put_accepted(
+        Ok(accepted) => put_accepted(
             out,
             at,
             edition,
             k,
-            header.fields.src_id,
-            header.fields.fr_cnt_tx,
-            flips,
+            accepted.header.fields.src_id,
+            accepted.header.fields.fr_cnt_tx,
+            accepted.flips,
             air::worst(patterns),
             b" bytes ",
             bytes,
         ),
-        Answer::Refused(why) => put_refused(out, at, k, why),
+        Err(why) => put_refused(out, at, k, why),
     }
 }
 
-// Puts the first line.
+// Puts the first line. (Each listing has a text and a room of its own: one function of both would be `put_text` again.)
 pub fn put_title(out: &mut [u8]) -> usize
     requires { line_room ≤ length out.old }
     ensures put { Put out.old 0 title out.new result }
@@ -238,7 +234,7 @@ fn put_last(out: &mut [u8], at: usize, tally: Tally) -> usize
     )
 }
 
-// Puts the last line, after `cut` where the input was cut.
+// Puts the last line, after `cut` where the input was cut. (Alike in three listings; one function would take the last line as a closure, and be longer.)
 pub fn put_closing(out: &mut [u8], at: usize, tally: Tally, cut: bool) -> usize
     requires { at + 2 * line_room ≤ length out.old }
     ensures { Put out.old at (closing_of tally cut) out.new result }

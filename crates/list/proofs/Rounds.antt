@@ -1,11 +1,6 @@
--- A read, the lines of what was read, and their write: what is left is within what was read, and less than a record where the listing is not over.
+-- A piece is taken: what is left is within it, and less than a record where the listing is not over; its lines are within the output.
 -- Assumes nothing.
-use mathlib.Core.Path.{◌≡◌, sym, ◌∙◌}
-use mathlib.Core.Bool.{Bool, false}
-use mathlib.Core.List.{List}
-use Prim.Native.Nat.{ℕ}
-use native.Mathlib.Omega.{arith}
-use lib.ListN.{length, take}
+use Rattle.std.proofs.Common.{◌≡◌, ℕ, ◌<◌, ◌≤◌, Bool, false, sym, ◌∙◌, List, length, take, arith}
 use Rattle.air.specs.Air.{payload_limit}
 use Rattle.header.specs.declared.Rules.{Rules}
 use Rattle.lines.specs.declared.Tally.{Tally}
@@ -13,19 +8,17 @@ use Rattle.record.specs.declared.Ending.{Ending}
 use Rattle.record.specs.Records.{record_size}
 use Rattle.record.specs.Walks.{ended_as, over_of}
 use Rattle.walk.specs.Scans.{Turned}
-use Rattle.streams.specs.declared.Filled.{Filled}
-use Rattle.streams.specs.declared.Next.{Next}
-use Rattle.streams.specs.declared.Next.TheVariants.{More}
-use Rattle.streams.specs.Turns.{ReadOn, TurnsLeft}
-use Rattle.streams.proofs.Rounds.{Ready, goes_on}
+use Rattle.walk.proofs.Keeping.{text_inside}
+use Rattle.streams.specs.Pump.{TakenUp}
 use Rattle.listing.specs.Listing.{list_walk}
 use Rattle.listing.proofs.Keeping.{left_short}
 
-pub lists_on : (rules : Rules) (tally : Tally) (buf₀ out₀ buf out : List ℕ) (kept turns : ℕ) → Ready (record_size payload_limit) buf₀ out₀ buf out kept turns → (filled : Filled) → ReadOn buf kept filled
-    → (read : List ℕ) → length read ≡ length buf → (buf' out' : List ℕ) (after : Tally) (left to : ℕ) (ending : Ending)
-    → Turned (list_walk rules) 1 tally read filled.end out buf' out' after left to (ended_as ending) → length buf' ≡ length read → length out' ≡ length out
-    → (over : Bool) → over ≡ over_of ending → (next : Next) → (next ≡ More → over ≡ false) → (turns' : ℕ) → TurnsLeft turns next turns'
-    → Ready (record_size payload_limit) buf₀ out₀ buf' out' left turns'
-lists_on rules tally buf₀ out₀ buf out kept turns so filled was read same buf' out' after left to ending done input output over is next sent turns' turned =
-    goes_on (record_size payload_limit) buf₀ out₀ buf out kept turns so read buf' out' left over next turns' same input output
-    (omega (arith, done.inside, was.inside)) (λ e. left_short rules tally (take filled.end read) out 0 out' after left to ending done.listed (sym is ∙ e)) sent turned
+pub lists : (rules : Rules) (tally : Tally) (buf out : List ℕ) (end : ℕ) → record_size payload_limit ≤ length buf → (buf' out' : List ℕ) (after : Tally) (left to : ℕ) (ending : Ending)
+    → Turned (list_walk rules) 1 tally buf end out buf' out' after left to (ended_as ending) → length buf' ≡ length buf
+    → (over : Bool) → over ≡ over_of ending → TakenUp (length buf') (length out') end (record { left = left; to = to; over = over })
+lists rules tally buf out end fits buf' out' after left to ending done input over is =
+    record {
+      inside = done.inside;
+      room = λ e. let few = left_short rules tally (take end buf) out 0 out' after left to ending done.listed (sym is ∙ e) in omega (arith, few, fits, input);
+      text = text_inside (list_walk rules) 1 tally buf end out buf' out' after left to (ended_as ending) done;
+    }

@@ -2,8 +2,7 @@
 // its name are those of `options`: `--strict` tells on standard error where and why a listing was cut.
 #![tactic(auto)]
 
-ghost use Rattle.std.specs.Prelude.{◌≡◌, ◌*◌, ◌≤◌, length};
-ghost use Rattle.word.specs.Repairs.{syndromes};
+ghost use Rattle.std.specs.Prelude.{◌≡◌, ◌*◌, ◌≤◌, length, ⊤};
 ghost use Rattle.air.specs.Air.{payload_limit};
 ghost use Rattle.record.specs.Records.{record_size};
 ghost use Rattle.frame.specs.Recorded.{listed_rules};
@@ -15,8 +14,9 @@ use header::Rules;
 use lines::Tally;
 use record::{Ending, is_over};
 use std::io::Write;
-use streams::{is_done, moved_on, read_on, send, turns_left, write};
-use word::table::TABLE_ROWS;
+use streams::pump::{Rest, Taker, Turn, pump};
+use streams::write;
+use word::table::Syndromes;
 
 // How much is read at once, and how much is written.
 const BUFFER_BYTES: usize = 65536;
@@ -34,80 +34,63 @@ fn tell_cut(rt: HostRuntime, ending: Ending, place: u64) {
     }
 }
 
-// Writes the last lines of a listing that ended so, with so many bytes left from a place on.
-fn finish(
-    rt: HostRuntime,
-    strict: bool,
+// A listing under way: how headers are read, what was counted, and how the last piece ended.
+#[derive(Drop)]
+struct Lister {
+    table: Syndromes,
+    rules: Rules,
     tally: Tally,
     ending: Ending,
-    left: usize,
-    place: u64,
-    out: &mut [u8],
-)
+    ghost listed: { rules ≡ listed_rules rules.edition },
+}
+
+impl Taker for Lister {
+    ghost fits = { λ buf out. (record_size payload_limit ≤ buf) × (buf ≤ out) };
+
+    ghost keeps = { λ l left. ⊤ };
+
+    fn take(&mut self, buf: &mut [u8], end: usize, out: &mut [u8]) -> Turn {
+        let listed = listing::list_piece(&self.table, self.rules, self.tally, buf, end, out);
+        self.tally = listed.state;
+        self.ending = listed.ending;
+        Turn {
+            left: listed.left,
+            to: listed.to,
+            over: is_over(listed.ending),
+        }
+    }
+}
+
+// Writes the last lines of a listing, of whose input so much is left.
+fn finish(rt: HostRuntime, strict: bool, lister: &Lister, rest: Rest, out: &mut [u8])
     requires { 2 * line_room ≤ length out.old }
 {
-    let closed = listing::close(tally, left, out);
-    let to = closed.to;
-    if write(rt, &out[..to]) && closed.cut && strict {
-        tell_cut(rt, ending, place);
+    let closed = listing::close(lister.tally, rest.left, out);
+    if write(rt, &out[..closed.to]) && closed.cut && strict {
+        tell_cut(rt, lister.ending, rest.place);
     }
 }
 
-// Lists the input, read by read. Where a read or a write fails, the lines up to there are written, and no last line.
-// The turns are counted down from a number that no run uses up: each but the last reads a byte.
-fn list(
-    rt: HostRuntime,
-    table: &[u16; TABLE_ROWS],
-    rules: Rules,
-    strict: bool,
-    buf: &mut [u8],
-    out: &mut [u8],
-)
-    requires table_value { table.now ≡ syndromes }
-    requires rules_value { rules ≡ listed_rules rules.edition }
-    requires payload_limit_in_bounds { record_size payload_limit ≤ length buf.old }
-    requires buf_in_bounds { length buf.old ≤ length out.old }
-{
-    let opened = listing::open(out);
-    let title = opened.to;
-    if !write(rt, &out[..title]) {
-        return;
-    }
-    let mut tally = opened.tally;
-    let mut front = 0;
-    let mut kept = 0;
-    let mut ending = Ending::Waits;
-    let mut ended = false;
-    let mut turns = u64::MAX;
-    while turns > 0 {
-        let filled = read_on(rt, buf, kept);
-        let end = filled.end;
-        let listed = listing::list_piece(table, rules, tally, buf, end, out);
-        front = moved_on(front, end, listed.left);
-        tally = listed.tally;
-        kept = listed.left;
-        let after = listed.ending;
-        ending = after;
-        let read = filled.next;
-        let next = send(rt, out, listed.to, read, is_over(after));
-        ended = is_done(next);
-        turns = turns_left(turns, next);
-    }
-    if ended {
-        finish(rt, strict, tally, ending, kept, front, out);
-    }
-}
-
-// The listing of standard input under an edition.
+// The listing of standard input under an edition, read by read. Where a read or a write fails, the lines up to there are written, and no last line.
 fn run(rt: HostRuntime, edition: Edition, strict: bool) {
-    let table = word::table::whole();
-    let rules = Rules {
-        edition,
-        limit: MOST_FLIPS,
-    };
     let mut buf = [0u8; BUFFER_BYTES];
     let mut out = [0u8; BUFFER_BYTES];
-    list(rt, &table, rules, strict, &mut buf, &mut out);
+    let opened = listing::open(&mut out);
+    if !write(rt, &out[..opened.to]) {
+        return;
+    }
+    let mut lister = Lister {
+        table: Syndromes::new(),
+        rules: Rules {
+            edition,
+            limit: MOST_FLIPS,
+        },
+        tally: opened.state,
+        ending: Ending::Waits,
+    };
+    if let Some(rest) = pump(rt, &mut lister, &mut buf, &mut out) {
+        finish(rt, strict, &lister, rest, &mut out);
+    }
 }
 
 // Tells of a wrong word, and of the right ones.
@@ -119,11 +102,10 @@ fn tell(rt: HostRuntime) {
 }
 
 fn main(rt: HostRuntime) {
-    let asked = options::read(rt);
-    if asked.wrong {
+    let Some(asked) = options::read(rt) else {
         tell(rt);
         return;
-    }
+    };
     let edition = asked.edition;
     run(rt, edition, asked.strict);
 }

@@ -9,22 +9,22 @@ use lib.Dec.{ltb, lit≤}
 use lib.ListN.{length, drop, length-append, length-drop}
 use lib.Seq.{length-take-le}
 use borrow.Author.Tests.{lt-ltb, le-ltb, leb-true, leb-false}
+use Rattle.std.specs.Prelude.{Ok, Err}
 use Rattle.base.specs.declared.Edition.{Edition}
 use Rattle.header.specs.declared.Rules.{Rules}
-use Rattle.header.specs.declared.Answer.{Answer}
-use Rattle.header.specs.declared.Answer.TheVariants.{Accepted, Refused}
+use Rattle.header.specs.Answers.{Answer}
 use Rattle.frame.specs.Frames.{Frame, frame_of, frame_read}
 use Rattle.frame.proofs.Rules.{frame_read_is}
-use Rattle.record.specs.declared.Cut.TheVariants.{Record}
 use Rattle.record.specs.declared.Ending.{Ending}
 use Rattle.record.specs.declared.Ending.TheVariants.{Full, TooLong as LongLength}
-use Rattle.record.specs.Records.{payload_in, payload_start, record_size, cut_of}
+use Rattle.record.specs.declared.Cut.TheVariants.{Record}
+use Rattle.record.specs.Records.{air_in, payload_in, record_size, cut_of}
 use Rattle.record.proofs.Cuts.{whole_at}
 use Rattle.record.proofs.Walking.{front_whole, Halts, filled, long, early, halts}
 use Rattle.walk.specs.Walks.{whole, Ended, waiting, stopped, Walked, halt, behind, walk_of}
 use Rattle.walk.proofs.Walking.{Stopped, walk_stops, walk_takes, by_items}
-use Rattle.sheet.specs.declared.Sheet.{Sheet}
-use Rattle.sheet.specs.declared.Offered.{Offered}
+use Rattle.sheet.specs.Sheets.{Sheet}
+use Rattle.sheet.specs.Sheets.{Offered}
 use Rattle.sheet.specs.Sheets.{new_sheet, heard_of, full_sheet, full_of, edition_of, offer_of}
 use Rattle.sheet.specs.Histories.{sheet_of, of_edition}
 use Rattle.sheet.proofs.History.{offered_counted, taken_before, same_after}
@@ -34,7 +34,7 @@ use Rattle.lines.specs.declared.Tally.{Tally}
 use Rattle.lines.specs.Tallies.{nothing_heard, total_of, tally_after}
 use Rattle.lines.specs.Lines.{line_of}
 use Rattle.frame.specs.Recorded.{frame_in}
-use Rattle.listing.specs.Listing.{full_at, tally_in, line_in, list_walk}
+use Rattle.listing.specs.Listing.{full_at, tally_in, line_in, list_reading, list_walk}
 use Rattle.listing.specs.Offers.{frames_in, lines_by, tally_by, whole_ahead}
 use Rattle.listing.proofs.Streaming.{list_sound}
 use Rattle.listing.proofs.Frames.{frames_more, frames_long, frames_short}
@@ -81,8 +81,8 @@ module _ (own : Edition) (before : List Frame) (all : AllOwn own before) (open' 
   tally_after_lem = by (frame_of f) refl
     where
       by : (a : Answer) → frame_of f ≡ a → tally_after (tally_by own (sheet_of own before)) a ≡ tally_by own (sheet_of own (before ++ f ∷ []))
-      by (Accepted h flips) is = ap₂ (λ (a r : ℕ). record { accepted = a; refused = r }) (sym (accepted_adds_one own before all room f mine h flips is)) (sym (accepted_keeps_refused own before all room f mine h flips is))
-      by (Refused why) is = ap₂ (λ (a r : ℕ). record { accepted = a; refused = r }) (sym (refused_keeps_accepted own before all room f mine why is)) (sym (refused_adds_one own before all room f mine why is))
+      by (Ok got) is = ap₂ (λ (a r : ℕ). record { accepted = a; refused = r }) (sym (accepted_adds_one own before all room f mine got.header got.flips is)) (sym (accepted_keeps_refused own before all room f mine got.header got.flips is))
+      by (Err why) is = ap₂ (λ (a r : ℕ). record { accepted = a; refused = r }) (sym (refused_keeps_accepted own before all room f mine why is)) (sym (refused_adds_one own before all room f mine why is))
 
   -- what is read of the frame is what the sheet reads
   read_same : frame_read f ≡ (offer_of own (sheet_of own before) f).read
@@ -112,7 +112,7 @@ module _ (rules : Rules) where
       → AsSheet own before (frames_in rules l) (walk_of (list_walk rules) tally l)
 
   stops : (tally : Tally) (l : List ℕ) (ended : Ended Ending) → Stopped (list_walk rules) tally l ended → Own tally l
-  stops tally l ended over = by ended over (halts full_at (tally_in rules) (line_in rules) tally l ended over)
+  stops tally l ended over = by ended over (halts (list_reading rules) tally l ended over)
     where
       halted_at : (ended : Ended Ending) → Stopped (list_walk rules) tally l ended → (t : Tally) → tally ≡ t → walk_of (list_walk rules) tally l ≡ halt t l ended
       halted_at ended over t is = walk_stops (list_walk rules) (list_sound rules) tally l ended over ∙ ap (λ (x : Tally). halt x l ended) is
@@ -126,17 +126,18 @@ module _ (rules : Rules) where
       by ended over (early e) before all is few =
           as_same own before _ _ _ _ (frames_short rules l e) (halted_at waiting over (tally_by own (sheet_of own before)) is) (as_none own before all few l waiting (rw e))
 
-  takes : (tally : Tally) (l : List ℕ) (n : ℕ) → (list_walk rules).cut tally l ≡ whole n → Own (tally_in rules tally n l) (drop (record_size n) l) → Own tally l
+  takes : (tally : Tally) (l : List ℕ) (n : ℕ) → (list_walk rules).cut tally l ≡ whole n → Own (tally_in rules tally (air_in l) (payload_in n l)) (drop (record_size n) l) → Own tally l
   takes tally l n item more before all is few =
       let f : Frame = frame_in rules n l in
       let m : List ℕ = drop (record_size n) l in
       let e : cut_of l ≡ Record n = (front_whole (full_at tally) l n item).0 in
       let open' : full_of own (sheet_of own before) ≡ false = sym (ap full_at is) ∙ (front_whole (full_at tally) l n item).1 in
-      let as_long : n ≡ length (payload_in n l) = sym (length-take-le n (drop payload_start l) (omega (arith, (whole_at l n e).there, length-drop payload_start l))) in
-      let line : line_in rules tally n l ≡ line_of own (heard_of own (sheet_of own before)) (length (payload_in n l)) (frame_read f) = ap₂ (λ (k bytes : ℕ). line_of own k bytes (frame_read f)) (ap total_of is) as_long in
+      let after : Walked Tally Ending = walk_of (list_walk rules) (tally_in rules tally (air_in l) (payload_in n l)) m in
+      let line : line_in rules tally (air_in l) (payload_in n l) ≡ line_of own (heard_of own (sheet_of own before)) (length (payload_in n l)) (frame_read f) =
+      ap (λ (k : ℕ). line_of own k (length (payload_in n l)) (frame_read f)) (ap total_of is) in
       as_same own before _ _ _ _ (frames_more rules l n e)
-      (walk_takes (list_walk rules) (list_sound rules) tally l n item ∙ ap (λ (text : List ℕ). behind text (walk_of (list_walk rules) (tally_in rules tally n l) m)) line)
-      (as_taken own before all open' f refl (frames_in rules m) (walk_of (list_walk rules) (tally_in rules tally n l) m)
+      (walk_takes (list_walk rules) (list_sound rules) tally l n item ∙ ap (λ (text : List ℕ). behind text after) line)
+      (as_taken own before all open' f refl (frames_in rules m) after
       (more (before ++ f ∷ []) (own_append own before (f ∷ []) all (refl, tt)) (ap (λ (t : Tally). tally_after t (frame_of f)) is ∙ tally_after_lem own before all open' f refl)
       (omega (arith, room own before all open' f refl, length-append before (f ∷ [])))))
 

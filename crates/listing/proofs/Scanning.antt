@@ -18,12 +18,6 @@ use Rattle.record.specs.Records.{record_size}
 use Rattle.listing.specs.Listing.{full_at, list_walk}
 use Rattle.listing.proofs.Streaming.{list_sound}
 
-abbrev pub Scanning : Rules → Tally → List ℕ → List ℕ → ℕ → List ℕ → Tally → ℕ → ℕ → Type 0
-Scanning rules = scan.Scanning (list_walk rules) (list_sound rules) 1
-
-pub starts : (rules : Rules) (tally : Tally) (l before : List ℕ) (at : ℕ) → at + length l ≤ length before → Scanning rules tally l before at before tally 0 at
-starts rules tally l before at room = scan.starts (list_walk rules) (list_sound rules) 1 tally l before at (omega arith)
-
 pub is_full : (tally : Tally) (k : ℕ) → k ≡ total_of tally → full_sheet ≤ k → full_at tally ≡ true
 is_full tally k heard h = le-leb full_sheet (total_of tally) (omega arith)
 

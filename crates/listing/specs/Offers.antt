@@ -7,7 +7,7 @@ use Rattle.frame.specs.Frames.{Frame}
 use Rattle.record.specs.declared.Cut.{Cut}
 use Rattle.record.specs.declared.Cut.TheVariants.{Record, TooLong, Short}
 use Rattle.record.specs.Records.{record_size, cut_of}
-use Rattle.sheet.specs.declared.Sheet.{Sheet}
+use Rattle.sheet.specs.Sheets.{Sheet}
 use Rattle.sheet.specs.Sheets.{accepted_of, refused_of, heard_of, full_of, offer_of}
 use Rattle.lines.specs.declared.Tally.{Tally}
 use Rattle.lines.specs.Lines.{line_of}

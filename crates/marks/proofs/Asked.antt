@@ -1,8 +1,9 @@
 -- Who asks for one mark after the other gets those of the piece.
 -- Assumes nothing.
 use mathlib.Core.Path.{◌≡◌, refl, sym, ap, ◌∙◌}
-use mathlib.Core.Bool.{Bool, true, false, cond, true≢false}
+use mathlib.Core.Bool.{Bool, true, false, cond}
 use mathlib.Core.List.{List, [], ◌∷◌, ◌++◌}
+use Rattle.std.specs.Prelude.{Option, Some, None}
 use Prim.Native.Nat.{ℕ, zero, suc, ◌+◌, ◌-◌, ◌<◌, ◌≤◌}
 use native.Mathlib.Nat.{le_refl}
 use native.Mathlib.Omega.{arith}
@@ -89,44 +90,50 @@ module _ (s : State) (piece : List ℕ) (at : ℕ) (long : length s.bits ≡ win
       )
 
 -- WHAT AN ANSWER SAYS
-abbrev found_of : Step → Bool
-found_of t = t.found
+abbrev found_of : Step → Option Mark
+found_of t = t.mark
 
-not_none : (n : ℕ) (t : Step) → no_step n ≡ t → t.found ≡ true → ⊥
+none_apart : (m : Mark) → ◌≡◌ {A = Option Mark} None (Some m) → ⊥
+none_apart m e = let z : ◌≡◌ {A = ℕ} 0 1 = cc in omega arith
+
+not_none : (n : ℕ) (t : Step) (m : Mark) → no_step n ≡ t → t.mark ≡ Some m → ⊥
 unfolding no_step
-not_none n t e f = true≢false (sym f ∙ sym (ap found_of e))
+not_none n t m e f = none_apart m (ap found_of e ∙ f)
 
-picked : (n total : ℕ) (ms : List Mark) (t : Step) → pick n total ms ≡ t → t.found ≡ true → (ms ≡ t.mark ∷ rest ms) × (t.next ≡ t.mark.place + window_bits - total)
-picked n total [] t e f = absurd (not_none n t e f)
-picked n total (q ∷ qs) t e f = (ap (λ (x : Step). x.mark ∷ qs) e, sym (ap (λ (x : Step). x.next) e) ∙ ap (λ (x : Step). x.mark.place + window_bits - total) e)
+picked : (n total : ℕ) (ms : List Mark) (t : Step) (m : Mark) → pick n total ms ≡ t → t.mark ≡ Some m → (ms ≡ m ∷ rest ms) × (t.next ≡ m.place + window_bits - total)
+picked n total [] t m e f = absurd (not_none n t m e f)
+picked n total (q ∷ qs) t m e f =
+    let both : ◌≡◌ {A = Option Mark} (Some q) (Some m) = ap found_of e ∙ f in
+    let same : q ≡ m = cc in
+    (ap (λ (x : Mark). x ∷ qs) same, sym (ap (λ (x : Step). x.next) e) ∙ ap (λ (x : Mark). x.place + window_bits - total) same)
 
-pickless : (b : Bool) (n total : ℕ) (ms : List Mark) (t : Step) → cond b (no_step n) (pick n total ms) ≡ t → t.found ≡ true → pick n total ms ≡ t
-pickless true n total ms t e f = absurd (not_none n t e f)
-pickless false n total ms t e f = e
+pickless : (b : Bool) (n total : ℕ) (ms : List Mark) (t : Step) (m : Mark) → cond b (no_step n) (pick n total ms) ≡ t → t.mark ≡ Some m → pick n total ms ≡ t
+pickless true n total ms t m e f = absurd (not_none n t m e f)
+pickless false n total ms t m e f = e
 
-none_picked : (n total : ℕ) (ms : List Mark) (t : Step) → pick n total ms ≡ t → t.found ≡ false → ms ≡ []
+none_picked : (n total : ℕ) (ms : List Mark) (t : Step) → pick n total ms ≡ t → t.mark ≡ None → ms ≡ []
 none_picked n total [] t e f = refl
-none_picked n total (q ∷ qs) t e f = absurd (true≢false (ap found_of e ∙ f))
+none_picked n total (q ∷ qs) t e f = absurd (none_apart q (sym (ap found_of e ∙ f)))
 
 module _ (s : State) (piece : List ℕ) (at : ℕ) (long : length s.bits ≡ window_bits) (t : Step) (e : t ≡ step_of s piece at) where
   -- a mark that is found is the first, the position goes on inside the piece, and the others are those from there
-  pub finds : t.found ≡ true → (at < t.next) × (t.next ≤ length piece) × (marks_at s piece at ≡ t.mark ∷ marks_at s piece t.next)
+  pub finds : (m : Mark) → t.mark ≡ Some m → (at < t.next) × (t.next ≤ length piece) × (marks_at s piece at ≡ m ∷ marks_at s piece t.next)
   unfolding step_of
-  finds f =
+  finds m f =
       let too_long : Bool = ltb longest_recording (s.total + length piece) in
-      let h = picked (length piece) s.total (marks_at s piece at) t (pickless too_long (length piece) s.total (marks_at s piece at) t (sym e) f) f in
-      let o = others_at s piece at long t.mark (rest (marks_at s piece at)) h.0 in
-      (rw h.1 o.0, rw h.1 o.1, h.0 ∙ ap (λ (qs : List Mark). t.mark ∷ qs) (o.2 ∙ ap (marks_at s piece) (sym h.1)))
+      let h = picked (length piece) s.total (marks_at s piece at) t m (pickless too_long (length piece) s.total (marks_at s piece at) t m (sym e) f) f in
+      let o = others_at s piece at long m (rest (marks_at s piece at)) h.0 in
+      (rw h.1 o.0, rw h.1 o.1, h.0 ∙ ap (λ (qs : List Mark). m ∷ qs) (o.2 ∙ ap (marks_at s piece) (sym h.1)))
 
-  pub finds_none : s.total + length piece ≤ longest_recording → t.found ≡ false → marks_at s piece at ≡ []
+  pub finds_none : s.total + length piece ≤ longest_recording → t.mark ≡ None → marks_at s piece at ≡ []
   unfolding step_of
   finds_none room f = none_picked (length piece) s.total (marks_at s piece at) t (sym (rw (le-ltb longest_recording (s.total + length piece) room) at e)) f
 
 pub got_all : (s : State) (piece : List ℕ) → length s.bits ≡ window_bits → s.total + length piece ≤ longest_recording
     → (at : ℕ) (ms : List Mark) → Got s piece at ms → ms ≡ marks_at s piece at
 got_all s piece long room at ms (last e) = sym (finds_none s piece at long (step_of s piece at) refl room e)
-got_all s piece long room at ms (more {ms = ns} e g) =
-    ap (λ (qs : List Mark). (step_of s piece at).mark ∷ qs) (got_all s piece long room (step_of s piece at).next ns g) ∙ sym (finds s piece at long (step_of s piece at) refl e).2
+got_all s piece long room at ms (more {m = m} {ms = ns} e g) =
+    ap (λ (qs : List Mark). m ∷ qs) (got_all s piece long room (step_of s piece at).next ns g) ∙ sym (finds s piece at long (step_of s piece at) refl m e).2
 
 -- SOMETHING IS GOT from every position: each mark that is found ends past the last, inside the piece
 pub record Asked (s : State) (piece : List ℕ) (at : ℕ) : Type 0 where
@@ -134,18 +141,18 @@ pub record Asked (s : State) (piece : List ℕ) (at : ℕ) : Type 0 where
   pub got : Got s piece at marks
 
 module _ (s : State) (piece : List ℕ) (long : length s.bits ≡ window_bits) where
-  by_found : (b : Bool) (at : ℕ) → (step_of s piece at).found ≡ b → (b ≡ true → Asked s piece (step_of s piece at).next) → Asked s piece at
-  by_found true at e further = record { marks = (step_of s piece at).mark ∷ (further refl).marks; got = more e (further refl).got }
-  by_found false at e further = record { marks = []; got = last e }
+  by_found : (o : Option Mark) (at : ℕ) → (step_of s piece at).mark ≡ o → ((m : Mark) → o ≡ Some m → Asked s piece (step_of s piece at).next) → Asked s piece at
+  by_found (Some m) at e further = record { marks = m ∷ (further m refl).marks; got = more e (further m refl).got }
+  by_found None at e further = record { marks = []; got = last e }
 
   -- after at most n more marks
   asks : (n at : ℕ) → length piece - at ≤ n → Asked s piece at
   asks zero at few =
-      by_found (step_of s piece at).found at refl
-      (λ f. absurd (omega (arith, few, (finds s piece at long (step_of s piece at) refl f).0, (finds s piece at long (step_of s piece at) refl f).1)))
+      by_found (step_of s piece at).mark at refl
+      (λ m f. absurd (omega (arith, few, (finds s piece at long (step_of s piece at) refl m f).0, (finds s piece at long (step_of s piece at) refl m f).1)))
   asks (suc n) at few =
-      by_found (step_of s piece at).found at refl
-      (λ f. asks n (step_of s piece at).next (omega (arith, few, (finds s piece at long (step_of s piece at) refl f).0, (finds s piece at long (step_of s piece at) refl f).1)))
+      by_found (step_of s piece at).mark at refl
+      (λ m f. asks n (step_of s piece at).next (omega (arith, few, (finds s piece at long (step_of s piece at) refl m f).0, (finds s piece at long (step_of s piece at) refl m f).1)))
 
   pub something_got : (at : ℕ) → Asked s piece at
   something_got at = asks (length piece - at) at (le_refl (length piece - at))

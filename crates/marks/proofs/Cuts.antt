@@ -3,13 +3,13 @@
 use mathlib.Core.Path.{◌≡◌, refl, sym, ap, ◌∙◌}
 use mathlib.Core.List.{List, [], ◌∷◌, ◌++◌, append_assoc, append-nil}
 use Prim.Native.Nat.{ℕ, ◌+◌, ◌-◌, ◌≤◌}
+use Rattle.std.specs.Prelude.{Ok, Err}
 use native.Mathlib.Omega.{arith}
 use lib.ListN.{length, drop, replicate, length-append, length-drop, length-replicate}
 use lib.Seq.{drop-append-le, drop-append-add, drop-drop}
 use Rattle.marks.specs.declared.Mark.{Mark}
 use Rattle.marks.specs.declared.State.{State}
-use Rattle.marks.specs.declared.Verdict.{Verdict}
-use Rattle.marks.specs.declared.Verdict.TheVariants.{Accepted, Refused}
+use Rattle.base.specs.Written.{Written}
 use Rattle.marks.specs.Marked.{window_bits, marks_from, marks_of}
 use Rattle.marks.specs.Pieces.{fresh_state, moved_on, grown, verdict_of, after_by, marks_at, marks_by, bits_by, all_marks, all_after, all_bits}
 use Rattle.marks.proofs.Whole.{later, cut}
@@ -64,16 +64,16 @@ grown_total done = refl
 pub marks_grow : (done piece : List ℕ) → marks_of (done ++ piece) ≡ marks_of done ++ marks_at (grown done) piece 0
 marks_grow done piece = cut 0 done piece ∙ ap (λ (ms : List Mark). marks_of done ++ ms) (sym (new_marks done piece))
 
-by_verdict_lem : (v : Verdict) (done piece : List ℕ) → marks_of (done ++ bits_by v piece) ≡ marks_of done ++ marks_by v (grown done) piece
-by_verdict_lem Accepted done piece = marks_grow done piece
-by_verdict_lem (Refused why) done piece = rw (append-nil done, append-nil (marks_of done))
+by_verdict_lem : (v : Written) (done piece : List ℕ) → marks_of (done ++ bits_by v piece) ≡ marks_of done ++ marks_by v (grown done) piece
+by_verdict_lem (Ok u) done piece = marks_grow done piece
+by_verdict_lem (Err why) done piece = rw (append-nil done, append-nil (marks_of done))
 
-grows_by : (v : Verdict) (done piece : List ℕ) → after_by v (grown done) piece ≡ grown (done ++ bits_by v piece)
-grows_by Accepted done piece = grows done piece
-grows_by (Refused why) done piece = rw (append-nil done)
+grows_by : (v : Written) (done piece : List ℕ) → after_by v (grown done) piece ≡ grown (done ++ bits_by v piece)
+grows_by (Ok u) done piece = grows done piece
+grows_by (Err why) done piece = rw (append-nil done)
 
 -- many pieces, after a first part
-next_piece : (v : Verdict) (done piece : List ℕ) (pieces : List (List ℕ))
+next_piece : (v : Written) (done piece : List ℕ) (pieces : List (List ℕ))
     → marks_of ((done ++ bits_by v piece) ++ all_bits (grown (done ++ bits_by v piece)) pieces)
     ≡ marks_of (done ++ bits_by v piece) ++ all_marks (grown (done ++ bits_by v piece)) pieces
     → marks_of (done ++ (bits_by v piece ++ all_bits (after_by v (grown done) piece) pieces))
@@ -91,14 +91,14 @@ pub marks_after : (done : List ℕ) (pieces : List (List ℕ)) → marks_of (don
 unfolding all_bits all_marks
 marks_after done [] = rw (append-nil done, append-nil (marks_of done))
 marks_after done (piece ∷ pieces) =
-    let v : Verdict = verdict_of (grown done).total piece in
+    let v : Written = verdict_of (grown done).total piece in
     next_piece v done piece pieces (marks_after (done ++ bits_by v piece) pieces)
 
 pub state_after_lem : (done : List ℕ) (pieces : List (List ℕ)) → all_after (grown done) pieces ≡ grown (done ++ all_bits (grown done) pieces)
 unfolding all_bits all_after
 state_after_lem done [] = rw (append-nil done)
 state_after_lem done (piece ∷ pieces) =
-    let v : Verdict = verdict_of (grown done).total piece in
+    let v : Written = verdict_of (grown done).total piece in
     ap (λ (s : State). all_after s pieces) (grows_by v done piece)
     ∙ state_after_lem (done ++ bits_by v piece) pieces
     ∙ ap grown (append_assoc done (bits_by v piece) (all_bits (grown (done ++ bits_by v piece)) pieces)

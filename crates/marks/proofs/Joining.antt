@@ -6,8 +6,7 @@ use Prim.Native.Nat.{ℕ, ◌+◌, ◌-◌, ◌≤◌, ◌<◌}
 use native.Mathlib.Omega.{arith}
 use lib.ListN.{length, get_or, take, drop, length-append, length-drop, get_or-append, get_or-eq_default}
 use lib.Seq.{get_or-append-add, get_or-take, get_or-drop, length-take-le, drop-append-add, ext_get_or}
-use Rattle.base.proofs.Tabulate.{tabulate_length, tabulate_at, tabulate_is}
-use Rattle.base.proofs.Fill.{Filled, fill_whole}
+use Rattle.base.proofs.Tabulate.{tabulate_length, tabulate_at}
 use Rattle.marks.specs.Marked.{window_bits}
 use Rattle.marks.specs.Scanning.{edge_bits, edge_of}
 
@@ -40,18 +39,6 @@ edge_length l = tabulate_length (element_of l) edge_bits
 pub edge_at : (l : List ℕ) (i : ℕ) → i < edge_bits → get_or (edge_of l) i 0 ≡ get_or l i 0
 unfolding edge_of
 edge_at l i h = tabulate_at (element_of l) 0 edge_bits i h
-
--- element i of the window at index k
-abbrev pub in_window : List ℕ → ℕ → ℕ → ℕ
-in_window bits k i = get_or bits (k + i) 0
-
--- the window at index k, filled whole
-pub window_filled : (bits : List ℕ) (k : ℕ) (l₀ : List ℕ) (n : ℕ) (l : List ℕ) → Filled (in_window bits k) window_bits l₀ n l
-    → window_bits ≤ n → length l₀ ≡ window_bits → k + window_bits ≤ length bits → l ≡ take window_bits (drop k bits)
-window_filled bits k l₀ n l so h long room =
-    fill_whole (in_window bits k) window_bits l₀ n l so h long
-    ∙ tabulate_is (in_window bits k) 0 window_bits (take window_bits (drop k bits)) (length-take-le window_bits (drop k bits) (simp length-drop (omega arith)))
-    (λ i lt. sym (get_or-take window_bits (drop k bits) i 0 lt ∙ get_or-drop k bits i 0))
 
 -- the window at index k is that of the edge
 of_edge : (v : List ℕ) (k : ℕ) (e w : List ℕ) → e ≡ edge_of v → k < window_bits → k + window_bits ≤ length v → w ≡ take window_bits (drop k e)

@@ -4,17 +4,17 @@ use mathlib.Core.Path.{◌≡◌, refl, ap, ◌∙◌}
 use mathlib.Core.List.{List, [], ◌∷◌, ◌++◌, flatten}
 use mathlib.Core.Logic.{⊎_elim}
 use Prim.Native.Nat.{ℕ, ◌+◌, ◌≤◌, ◌<◌}
+use Rattle.std.specs.Prelude.{Ok, Err}
 use native.Mathlib.Omega.{arith}
 use lib.ListN.{length, length-append, length-drop, length-replicate, get_or-append, get_or-eq_default}
 use lib.Dec.{lit<}
 use lib.Seq.{get_or-append-add}
 use Rattle.base.specs.Lists.{AreBits}
 use Rattle.base.proofs.Tests.{lt_or_ge}
+use Rattle.base.specs.Written.{Written, done, refused}
 use Rattle.base.specs.declared.Refusal.{Refusal}
 use Rattle.marks.specs.declared.Mark.{Mark}
 use Rattle.marks.specs.declared.State.{State}
-use Rattle.marks.specs.declared.Verdict.{Verdict}
-use Rattle.marks.specs.declared.Verdict.TheVariants.{Accepted, Refused}
 use Rattle.marks.specs.Marked.{window_bits, marks_of}
 use Rattle.marks.specs.Pieces.{longest_recording, fresh_state, moved_on, verdict_of, taken_of, marks_at, all_marks, all_after, all_bits}
 use Rattle.marks.specs.Reports.{Run, over, passed, taken}
@@ -55,11 +55,11 @@ runs s [] long = record { marks = []; run = over }
 runs s (piece ∷ pieces) long =
     by (runs s pieces long) (runs (moved_on s piece) pieces (stays_long s piece long)) (verdict_of s.total piece) refl
   where
-    by : Ran s pieces → Ran (moved_on s piece) pieces → (v : Verdict) → verdict_of s.total piece ≡ v → Ran s (piece ∷ pieces)
-    by without with Accepted e =
+    by : Ran s pieces → Ran (moved_on s piece) pieces → (v : Written) → verdict_of s.total piece ≡ v → Ran s (piece ∷ pieces)
+    by without with (Ok u) e =
         let asked = something_got s piece long 0 in
         record { marks = asked.marks ++ with.marks; run = taken e asked.got with.run }
-    by without with (Refused why) e = record { marks = without.marks; run = passed e without.run }
+    by without with (Err why) e = record { marks = without.marks; run = passed e without.run }
 
 pub a_run_exists : (pieces : List (List ℕ)) → Ran fresh_state pieces
 a_run_exists pieces = runs fresh_state pieces fresh_long
@@ -81,7 +81,7 @@ unfolding all_bits flatten
 all_taken s [] bits room = refl
 all_taken s (piece ∷ pieces) bits room =
     let both : length (piece ++ flatten pieces) ≡ length piece + length (flatten pieces) = length-append piece (flatten pieces) in
-    let accepted : verdict_of s.total piece ≡ Accepted = bits_accepted s.total piece (bits_front piece (flatten pieces) bits) (omega arith) in
+    let accepted : verdict_of s.total piece ≡ done = bits_accepted s.total piece (bits_front piece (flatten pieces) bits) (omega arith) in
     rw accepted
     (ap (λ (l : List ℕ). piece ++ l) (all_taken (moved_on s piece) pieces (bits_back piece (flatten pieces) bits) (rw (total_after s piece) (omega arith))))
 
@@ -91,16 +91,16 @@ whole_taken pieces bits room = all_taken fresh_state pieces bits (omega arith)
 
 -- what a refused piece leaves: the state, and all that comes after it
 pub record LeftOut (s : State) (piece : List ℕ) (why : Refusal) (pieces : List (List ℕ)) : Type 0 where
-  pub answer : taken_of s piece ≡ record { verdict = Refused why; state = s }
+  pub answer : taken_of s piece ≡ record { verdict = refused why; state = s }
   pub marks : all_marks s (piece ∷ pieces) ≡ all_marks s pieces
   pub state : all_after s (piece ∷ pieces) ≡ all_after s pieces
   pub bits : all_bits s (piece ∷ pieces) ≡ all_bits s pieces
 
-pub left_out : (s : State) (piece : List ℕ) (why : Refusal) (pieces : List (List ℕ)) → verdict_of s.total piece ≡ Refused why → LeftOut s piece why pieces
+pub left_out : (s : State) (piece : List ℕ) (why : Refusal) (pieces : List (List ℕ)) → verdict_of s.total piece ≡ refused why → LeftOut s piece why pieces
 unfolding taken_of all_marks all_after all_bits
 left_out s piece why pieces e = record { answer = rw e; marks = rw e; state = rw e; bits = rw e }
 
 -- an accepted piece adds its marks
-pub marks_more : (s : State) (piece : List ℕ) (pieces : List (List ℕ)) → verdict_of s.total piece ≡ Accepted → all_marks s (piece ∷ pieces) ≡ marks_at s piece 0 ++ all_marks (moved_on s piece) pieces
+pub marks_more : (s : State) (piece : List ℕ) (pieces : List (List ℕ)) → verdict_of s.total piece ≡ done → all_marks s (piece ∷ pieces) ≡ marks_at s piece 0 ++ all_marks (moved_on s piece) pieces
 unfolding all_marks
 marks_more s piece pieces e = rw e

@@ -1,7 +1,7 @@
 -- The window step: places without a marker are passed, a marked one is given, and at the end there is none.
 -- Assumes nothing.
 use mathlib.Core.Path.{◌≡◌, sym, ap, ◌∙◌}
-use mathlib.Core.Bool.{true}
+use Rattle.std.specs.Prelude.{Some}
 use mathlib.Core.List.{List, ◌∷◌, ◌++◌}
 use Prim.Native.Nat.{ℕ, zero, suc, ◌+◌, ◌-◌, ◌^◌, ◌<◌, ◌≤◌}
 use native.Mathlib.Nat.{add-zero, add-suc, suc-add}
@@ -46,7 +46,7 @@ module _ (n total : ℕ) (v : List ℕ) (long : length v ≡ window_bits + n) (f
       et ∙ sym (ap (pick n total) (from_there ∙ none_short (total + k - window_bits) (drop k v) (simp length-drop (omega arith))))
 
   gives_mark : (m : Mark) → k ≤ n → m ≡ mark_at (total + k - window_bits) (drop k v)
-      → record { found = true; mark = m; next = k } ≡ pick n total (marks_from (total + from - window_bits) (drop from v))
+      → record { mark = Some m; next = k } ≡ pick n total (marks_from (total + from - window_bits) (drop from v))
   unfolding mark_at
   gives_mark m h em =
       let next : total + k - window_bits + window_bits - total ≡ k = omega (arith, so.begun) in
@@ -60,7 +60,7 @@ module _ (n total : ℕ) (v : List ℕ) (long : length v ≡ window_bits + n) (f
       ∙ ap (λ (q : Mark). made q k) (sym em))
     where
       made : Mark → ℕ → Step
-      made q i = record { found = true; mark = q; next = i }
+      made q i = record { mark = Some q; next = i }
 
 module _ (kept piece : List ℕ) (total from k : ℕ) (long : length kept ≡ window_bits) (so : Sought (kept ++ piece) from (length piece + 1) k) (begun : window_bits ≤ total + from) where
   joined_long : length (kept ++ piece) ≡ window_bits + length piece
@@ -70,7 +70,7 @@ module _ (kept piece : List ℕ) (total from k : ℕ) (long : length kept ≡ wi
   scan_none t et h = gives_none (length piece) total (kept ++ piece) joined_long from k so begun t et h
 
   pub scan_mark : (m : Mark) → k ≤ length piece → m ≡ mark_at (total + k - window_bits) (drop k (kept ++ piece))
-      → record { found = true; mark = m; next = k } ≡ pick (length piece) total (marks_from (total + from - window_bits) (drop from (kept ++ piece)))
+      → record { mark = Some m; next = k } ≡ pick (length piece) total (marks_from (total + from - window_bits) (drop from (kept ++ piece)))
   scan_mark m h em = gives_mark (length piece) total (kept ++ piece) joined_long from k so begun m h em
 
 -- THE STEP: a piece that is too long, a window that ends past the piece, a search

@@ -1,13 +1,12 @@
 -- The recording in pieces: what is kept, what a piece is answered, and the marks that it adds.
 -- Assumes nothing.
-use Rattle.std.specs.Prelude.{ℕ, ◌+◌, ◌-◌, true, false, cond, List, [], ◌∷◌, ◌++◌, ltb, length, drop, replicate}
+use Rattle.std.specs.Prelude.{ℕ, ◌+◌, ◌-◌, cond, Some, None, Ok, Err, List, [], ◌∷◌, ◌++◌, ltb, length, drop, replicate}
 use Rattle.base.specs.Checks.{Check, check, first, refusal}
+use Rattle.base.specs.Written.{Written, done, refused}
 use Rattle.air.specs.Air.{first_no_bit}
 use Rattle.marks.specs.declared.Mark.{Mark}
 use Rattle.marks.specs.declared.State.{State}
 use Rattle.marks.specs.declared.Taken.{Taken}
-use Rattle.marks.specs.declared.Verdict.{Verdict}
-use Rattle.marks.specs.declared.Verdict.TheVariants.{Accepted, Refused}
 use Rattle.marks.specs.declared.Step.{Step}
 use Rattle.marks.specs.Marked.{window_bits, marks_from}
 
@@ -17,18 +16,18 @@ longest_recording = 4294967295
 
 -- THE REFUSALS of a piece after so many bits
 -- 19, "an element above 1 in a piece": its lowest index in the piece
-abbrev pub no_bit_in_piece : List ℕ → Check Verdict
-no_bit_in_piece piece = check (ltb (first_no_bit piece) (length piece)) (Refused (refusal 19 (first_no_bit piece)))
+abbrev pub no_bit_in_piece : List ℕ → Check Written
+no_bit_in_piece piece = check (ltb (first_no_bit piece) (length piece)) (refused (refusal 19 (first_no_bit piece)))
 
 -- 37, "a piece that would take the recording past 4,294,967,295 bits": the piece's length
-abbrev pub long_recording : ℕ → List ℕ → Check Verdict
-long_recording total piece = check (ltb longest_recording (total + length piece)) (Refused (refusal 37 (length piece)))
+abbrev pub long_recording : ℕ → List ℕ → Check Written
+long_recording total piece = check (ltb longest_recording (total + length piece)) (refused (refusal 37 (length piece)))
 
-abbrev pub piece_checks : ℕ → List ℕ → List (Check Verdict)
+abbrev pub piece_checks : ℕ → List ℕ → List (Check Written)
 piece_checks total piece = no_bit_in_piece piece ∷ long_recording total piece ∷ []
 
-unfoldable pub verdict_of : ℕ → List ℕ → Verdict
-verdict_of total piece = first Accepted (piece_checks total piece)
+unfoldable pub verdict_of : ℕ → List ℕ → Written
+verdict_of total piece = first done (piece_checks total piece)
 
 -- THE STATE
 unfoldable pub fresh_state : State
@@ -43,9 +42,9 @@ unfoldable pub grown : List ℕ → State
 grown done = record { bits = drop (length done) (replicate window_bits 0 ++ done); total = length done }
 
 -- "state unchanged in both"
-abbrev pub after_by : Verdict → State → List ℕ → State
-after_by Accepted s piece = moved_on s piece
-after_by (Refused why) s piece = s
+abbrev pub after_by : Written → State → List ℕ → State
+after_by (Ok u) s piece = moved_on s piece
+after_by (Err why) s piece = s
 
 abbrev pub state_after : State → List ℕ → State
 state_after s piece = after_by (verdict_of s.total piece) s piece
@@ -68,12 +67,12 @@ marks_at s piece at = marks_from (place_at s.total at) (drop (index_of s.total a
 
 -- no mark: the position after a piece of n elements
 unfoldable pub no_step : ℕ → Step
-no_step n = record { found = false; mark = record { place = 0; window = replicate window_bits 0 }; next = n }
+no_step n = record { mark = None; next = n }
 
 -- the first of some marks, and the position after its last bit
 abbrev pub pick : ℕ → ℕ → List Mark → Step
 pick n total [] = no_step n
-pick n total (m ∷ ms) = record { found = true; mark = m; next = m.place + window_bits - total }
+pick n total (m ∷ ms) = record { mark = Some m; next = m.place + window_bits - total }
 
 -- the next mark from `at` on; none in a piece that would make the recording too long
 unfoldable pub step_of : State → List ℕ → ℕ → Step
@@ -81,13 +80,13 @@ step_of s piece at =
     cond (ltb longest_recording (s.total + length piece)) (no_step (length piece)) (pick (length piece) s.total (marks_at s piece at))
 
 -- MANY PIECES: what one adds to the marks and to the bits; what all of them add, and the state after them
-abbrev pub marks_by : Verdict → State → List ℕ → List Mark
-marks_by Accepted s piece = marks_at s piece 0
-marks_by (Refused why) s piece = []
+abbrev pub marks_by : Written → State → List ℕ → List Mark
+marks_by (Ok u) s piece = marks_at s piece 0
+marks_by (Err why) s piece = []
 
-abbrev pub bits_by : Verdict → List ℕ → List ℕ
-bits_by Accepted piece = piece
-bits_by (Refused why) piece = []
+abbrev pub bits_by : Written → List ℕ → List ℕ
+bits_by (Ok u) piece = piece
+bits_by (Err why) piece = []
 
 unfoldable pub all_marks : State → List (List ℕ) → List Mark
 all_marks s [] = []

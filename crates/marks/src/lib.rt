@@ -9,7 +9,8 @@ ghost use Rattle.marks.specs.Marked.{window_bits, mark_at, marks_from};
 ghost use Rattle.marks.specs.Pieces.{longest_recording, fresh_state, verdict_of, taken_of, index_of, no_step, pick, step_of};
 
 use air::AIR_BITS;
-use base::{LONG_RECORDING, NO_BIT_IN_PIECE, Refusal};
+use base::{Reason, Written};
+use scanning::Joined;
 
 // The marker's bits.
 pub const MARKER_BITS: usize = 32;
@@ -34,38 +35,28 @@ pub struct Mark {
     pub window: [u8; WINDOW_BITS],
 }
 
-// The next mark and the position after its last bit. Where `found` is false the piece has no more, the mark is all 0, and `next` is
-// the piece's end.
+// The next mark and the position after its last bit. Where it is none the piece has no more, and `next` is the piece's end.
 #[derive(Clone, Copy)]
 pub struct Step {
-    pub found: bool,
-    pub mark: Mark,
+    pub mark: Option<Mark>,
     pub next: usize,
-}
-
-// What is answered to a piece.
-#[derive(Clone, Copy)]
-pub enum Verdict {
-    Accepted,
-    Refused(Refusal),
 }
 
 // The verdict, and the state after the piece: as it was, where the piece is refused.
 #[derive(Clone, Copy)]
 pub struct Taken {
-    pub verdict: Verdict,
+    pub verdict: Written,
     pub state: State,
 }
 
-// The mark at index k of what is kept and the piece after it.
-fn mark_at(kept: &[u8], piece: &[u8], total: u32, k: usize) -> Mark
-    requires kept_len { length kept.now ≡ window_bits }
-    requires k_in_bounds { k ≤ length piece.now }
+// The mark at index k.
+fn mark_at(joined: Joined, total: u32, k: usize) -> Mark
+    requires k_in_bounds { k ≤ length joined.piece.now }
     requires window_bits_bound { window_bits ≤ total + k }
-    requires piece_bound { total + length piece.now ≤ longest_recording }
-    ensures { result ≡ mark_at (total + k - window_bits) (drop k (kept.now ++ piece.now)) }
+    requires piece_bound { total + length joined.piece.now ≤ longest_recording }
+    ensures { result ≡ mark_at (total + k - window_bits) (drop k (joined.entry.kept.now ++ joined.entry.piece.now)) }
 {
-    let window = scanning::window_at(kept, piece, k);
+    let window = joined.window_at(k);
     Mark {
         place: (total as usize + k - WINDOW_BITS) as u32,
         window,
@@ -77,32 +68,26 @@ fn none(n: usize) -> Step
     ensures { result ≡ no_step n }
 {
     Step {
-        found: false,
-        mark: Mark {
-            place: 0,
-            window: [0u8; WINDOW_BITS],
-        },
+        mark: None,
         next: n,
     }
 }
 
 // The first mark from index `from` on.
-fn scan(kept: &[u8], piece: &[u8], total: u32, from: usize) -> Step
-    requires kept_len { length kept.now ≡ window_bits }
-    requires from_in_bounds { from ≤ length piece.now }
+fn scan(joined: Joined, total: u32, from: usize) -> Step
+    requires from_in_bounds { from ≤ length joined.piece.now }
     requires window_bits_bound { window_bits ≤ total + from }
-    requires piece_bound { total + length piece.now ≤ longest_recording }
-    ensures { result ≡ pick (length piece.now) total (marks_from (total + from - window_bits) (drop from (kept.now ++ piece.now))) }
+    requires piece_bound { total + length joined.piece.now ≤ longest_recording }
+    ensures { result ≡ pick (length joined.entry.piece.now) total (marks_from (total + from - window_bits) (drop from (joined.entry.kept.now ++ joined.entry.piece.now))) }
 {
-    let n = piece.len();
-    let k = scanning::next_index(kept, piece, from);
+    let n = joined.piece.len();
+    let k = joined.next_index(from);
     if n < k {
         return none(n);
     }
-    let mark = mark_at(kept, piece, total, k);
+    let mark = mark_at(joined, total, k);
     Step {
-        found: true,
-        mark,
+        mark: Some(mark),
         next: k,
     }
 }
@@ -135,29 +120,24 @@ pub fn find(state: State, piece: &[u8], at: usize) -> Step
         return none(n);
     }
     let kept = state.bits;
-    scan(&kept, piece, total, from)
+    let joined = Joined { kept: &kept, piece };
+    scan(joined, total, from)
 }
 
 // What is answered to a piece after so many bits.
-fn judge(piece: &[u8], total: u32) -> Verdict
+fn judge(piece: &[u8], total: u32) -> Written
     ensures { result ≡ verdict_of total piece.now }
 {
     let n = piece.len();
     let at = air::first_no_bit(piece);
     if at < n {
-        return Verdict::Refused(Refusal {
-            number: NO_BIT_IN_PIECE,
-            place: at,
-        });
+        return Err(Reason::NoBitInPiece.at(at));
     }
     let left = (LONGEST_RECORDING - total) as usize;
     if left < n {
-        return Verdict::Refused(Refusal {
-            number: LONG_RECORDING,
-            place: n,
-        });
+        return Err(Reason::LongRecording.at(n));
     }
-    Verdict::Accepted
+    Ok(())
 }
 
 // So many bits and n more.
@@ -176,15 +156,16 @@ pub fn take(state: State, piece: &[u8]) -> Taken
     let kept = state.bits;
     let verdict = judge(piece, total);
     match verdict {
-        Verdict::Refused(why) => Taken {
-            verdict: Verdict::Refused(why),
+        Err(why) => Taken {
+            verdict: Err(why),
             state,
         },
-        Verdict::Accepted => {
+        Ok(()) => {
             let n = piece.len();
-            let bits = scanning::window_at(&kept, piece, n);
+            let joined = Joined { kept: &kept, piece };
+            let bits = joined.window_at(n);
             Taken {
-                verdict: Verdict::Accepted,
+                verdict: Ok(()),
                 state: State {
                     bits,
                     total: more(total, n),

@@ -21,12 +21,10 @@ fn is_marker(bits: &[u8], k: usize) -> bool
     requires { k + marker_bits ≤ length bits.now }
     ensures { result ≡ is_marker (drop k bits.now) }
 {
-    let mut i = 0;
-    while i < MARKER_BITS {
+    for i in 0..MARKER_BITS {
         if bits[k + i] != marker_bit(i) {
             return false;
         }
-        i += 1;
     }
     true
 }
@@ -50,10 +48,8 @@ fn clear(bits: &[u8], k: usize) -> u8
     ensures { 0 < result → Clear bits.now k (k + block_size) }
 {
     let mut all: u8 = 1;
-    let mut i = 0;
-    while i < BLOCK {
-        all = all & unlike(bits, k + i);
-        i += 1;
+    for i in 0..BLOCK {
+        all &= unlike(bits, k + i);
     }
     all
 }
@@ -64,17 +60,15 @@ fn look(bits: &[u8], from: usize, end: usize) -> usize
     requires end_in_bounds { end + 31 ≤ length bits.now }
     ensures { Sought bits.now from end result }
 {
-    let mut k = from;
-    while k < end {
+    for k in from..end {
         if is_marker(bits, k) {
             return k;
         }
-        k += 1;
     }
-    k
+    end
 }
 
-// The same, block by block: most blocks are clear.
+// The same, block by block: most blocks are clear. A `while`, since the rest after the last whole block starts at its k.
 fn seek(bits: &[u8], from: usize, end: usize) -> usize
     requires from_le_end { from ≤ end }
     requires end_in_bounds { end + 31 ≤ length bits.now }
@@ -96,36 +90,8 @@ fn seek(bits: &[u8], from: usize, end: usize) -> usize
     look(bits, k, end)
 }
 
-// Element i of what is kept and the piece after it; 0 past the end.
-fn joined_bit(kept: &[u8], piece: &[u8], i: usize) -> u8
-    requires { length kept.now ≡ window_bits }
-    ensures { result ≡ get_or (kept.now ++ piece.now) i 0 }
-{
-    if i < WINDOW_BITS {
-        return kept[i];
-    }
-    if i - WINDOW_BITS < piece.len() {
-        return piece[i - WINDOW_BITS];
-    }
-    0
-}
-
 // The bits of all windows that start in what is kept.
 const EDGE_BITS: usize = WINDOW_BITS + WINDOW_BITS - 1;
-
-// What is kept and the bits after it, as far as windows that start there go.
-fn edge(kept: &[u8], piece: &[u8]) -> [u8; EDGE_BITS]
-    requires { length kept.now ≡ window_bits }
-    ensures { result ≡ edge_of (kept.now ++ piece.now) }
-{
-    let mut bits = [0u8; EDGE_BITS];
-    let mut i = 0;
-    while i < EDGE_BITS {
-        bits[i] = joined_bit(kept, piece, i);
-        i += 1;
-    }
-    bits
-}
 
 // The window at index k.
 fn window(bits: &[u8], k: usize) -> [u8; WINDOW_BITS]
@@ -133,65 +99,92 @@ fn window(bits: &[u8], k: usize) -> [u8; WINDOW_BITS]
     ensures { result ≡ take window_bits (drop k bits.now) }
 {
     let mut window = [0u8; WINDOW_BITS];
-    let mut i = 0;
-    while i < WINDOW_BITS {
-        window[i] = bits[k + i];
-        i += 1;
-    }
+    window.copy_from_slice(&bits[k..k + WINDOW_BITS]);
     window
 }
 
-// The window at index k of what is kept and the piece after it.
-pub fn window_at(kept: &[u8], piece: &[u8], k: usize) -> [u8; WINDOW_BITS]
-    requires kept_len { length kept.now ≡ window_bits }
-    requires k_in_bounds { k ≤ length piece.now }
-    ensures { result ≡ take window_bits (drop k (kept.now ++ piece.now)) }
-{
-    if k < WINDOW_BITS {
-        let edge = edge(kept, piece);
-        return window(&edge, k);
-    }
-    window(piece, k - WINDOW_BITS)
+// What is kept and the piece after it, as one list of bits.
+#[derive(Clone, Copy)]
+pub struct Joined<'a> {
+    pub kept: &'a [u8; WINDOW_BITS],
+    pub piece: &'a [u8],
+    // Of an array behind a field the prover knows no length by itself.
+    ghost whole: { length kept.now ≡ window_bits },
 }
 
-// The lowest index of the marker from `from` on and below `end`, where it starts in what is kept.
-fn in_edge(kept: &[u8], piece: &[u8], from: usize, end: usize) -> usize
-    requires kept_len { length kept.now ≡ window_bits }
-    requires from_lt_end { from < end }
-    requires end_le_window_bits { end ≤ window_bits }
-    ensures { Sought (kept.now ++ piece.now) from end result }
-{
-    let edge = edge(kept, piece);
-    seek(&edge, from, end)
-}
+impl<'a> Joined<'a> {
+    // Element i; 0 past the end.
+    fn bit(self, i: usize) -> u8
+        ensures { result ≡ get_or (self.entry.kept.now ++ self.entry.piece.now) i 0 }
+    {
+        if i < WINDOW_BITS {
+            return self.kept[i];
+        }
+        if i - WINDOW_BITS < self.piece.len() {
+            return self.piece[i - WINDOW_BITS];
+        }
+        0
+    }
 
-// The same where it starts in the piece, of a window that ends there.
-fn in_piece(kept: &[u8], piece: &[u8], from: usize) -> usize
-    requires kept_len { length kept.now ≡ window_bits }
-    requires window_bits_le_from { window_bits ≤ from }
-    requires from_in_bounds { from ≤ length piece.now }
-    ensures { Sought (kept.now ++ piece.now) from (length piece.now + 1) result }
-{
-    let end = piece.len() + 1;
-    WINDOW_BITS + seek(piece, from - WINDOW_BITS, end - WINDOW_BITS)
-}
+    // What is kept and the bits after it, as far as windows that start there go.
+    fn edge(self) -> [u8; EDGE_BITS]
+        ensures { result ≡ edge_of (self.entry.kept.now ++ self.entry.piece.now) }
+    {
+        let mut bits = [0u8; EDGE_BITS];
+        for i in 0..EDGE_BITS {
+            bits[i] = self.bit(i);
+        }
+        bits
+    }
 
-// The lowest index of the marker from `from` on, of a window that ends in the piece; one past the piece's length where there is none.
-pub fn next_index(kept: &[u8], piece: &[u8], from: usize) -> usize
-    requires kept_len { length kept.now ≡ window_bits }
-    requires from_in_bounds { from ≤ length piece.now }
-    ensures { Sought (kept.now ++ piece.now) from (length piece.now + 1) result }
-{
-    let n = piece.len();
-    if n < WINDOW_BITS {
-        return in_edge(kept, piece, from, n + 1);
+    // The window at index k.
+    pub fn window_at(self, k: usize) -> [u8; WINDOW_BITS]
+        requires { k ≤ length self.piece.now }
+        ensures { result ≡ take window_bits (drop k (self.entry.kept.now ++ self.entry.piece.now)) }
+    {
+        if k < WINDOW_BITS {
+            let edge = self.edge();
+            return window(&edge, k);
+        }
+        window(self.piece, k - WINDOW_BITS)
     }
-    if WINDOW_BITS <= from {
-        return in_piece(kept, piece, from);
+
+    // The lowest index of the marker from `from` on and below `end`, where it starts in what is kept.
+    fn in_edge(self, from: usize, end: usize) -> usize
+        requires from_lt_end { from < end }
+        requires end_le_window_bits { end ≤ window_bits }
+        ensures { Sought (self.entry.kept.now ++ self.entry.piece.now) from end result }
+    {
+        let edge = self.edge();
+        seek(&edge, from, end)
     }
-    let k = in_edge(kept, piece, from, WINDOW_BITS);
-    if k < WINDOW_BITS {
-        return k;
+
+    // The same where it starts in the piece, of a window that ends there.
+    fn in_piece(self, from: usize) -> usize
+        requires window_bits_le_from { window_bits ≤ from }
+        requires from_in_bounds { from ≤ length self.piece.now }
+        ensures { Sought (self.entry.kept.now ++ self.entry.piece.now) from (length self.entry.piece.now + 1) result }
+    {
+        let end = self.piece.len() + 1;
+        WINDOW_BITS + seek(self.piece, from - WINDOW_BITS, end - WINDOW_BITS)
     }
-    in_piece(kept, piece, WINDOW_BITS)
+
+    // The lowest index of the marker from `from` on, of a window that ends in the piece; one past the piece's length where there is none.
+    pub fn next_index(self, from: usize) -> usize
+        requires { from ≤ length self.piece.now }
+        ensures { Sought (self.entry.kept.now ++ self.entry.piece.now) from (length self.entry.piece.now + 1) result }
+    {
+        let n = self.piece.len();
+        if n < WINDOW_BITS {
+            return self.in_edge(from, n + 1);
+        }
+        if WINDOW_BITS <= from {
+            return self.in_piece(from);
+        }
+        let k = self.in_edge(from, WINDOW_BITS);
+        if k < WINDOW_BITS {
+            return k;
+        }
+        self.in_piece(WINDOW_BITS)
+    }
 }

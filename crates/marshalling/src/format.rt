@@ -1,43 +1,57 @@
 // The kinds, their sizes and what stands where in records and replies, in bytes: the format of independent/README.md.
 // A part starts where the one before it ends. A record is told without its kind's byte.
-ghost use Rattle.std.specs.Prelude.{◌≤◌};
+ghost use Rattle.std.specs.Prelude.{◌≡◌, ◌≤◌};
+ghost use Rattle.marshalling.specs.Kinds.{kind_of};
 
 // The kinds, by the byte before a record.
-pub const WORDS: u8 = 0;
+#[derive(Clone, Copy, PartialEq, Eq, Debug)]
+pub enum Kind {
+    Words = 0,
+    Encode = 1,
+    Crc13 = 2,
+    Crc5 = 3,
+    Headers = 4,
+    Writes = 5,
+    Frames = 6,
+    Pages = 7,
+    Rows = 8,
+    Shown = 9,
+    Sheets = 10,
+    Sources = 11,
+    Wides = 12,
+    Signs = 13,
+    Calls = 14,
+    Beesat = 15,
+    Fields = 16,
+}
 
-pub const ENCODE: u8 = 1;
-
-pub const CRC13: u8 = 2;
-
-pub const CRC5: u8 = 3;
-
-pub const HEADERS: u8 = 4;
-
-pub const WRITES: u8 = 5;
-
-pub const FRAMES: u8 = 6;
-
-pub const PAGES: u8 = 7;
-
-pub const ROWS: u8 = 8;
-
-pub const SHOWN: u8 = 9;
-
-pub const SHEETS: u8 = 10;
-
-pub const SOURCES: u8 = 11;
-
-pub const WIDES: u8 = 12;
-
-pub const SIGNS: u8 = 13;
-
-pub const CALLS: u8 = 14;
-
-pub const BEESAT: u8 = 15;
-
-pub const FIELDS: u8 = 16;
-
-pub const NO_KIND: u8 = 255;
+impl Kind {
+    // The kind whose byte this is. None where it is that of no kind.
+    pub fn from_byte(byte: u8) -> Option<Kind>
+        ensures { result ≡ kind_of byte }
+    {
+        match byte {
+            0 => Some(Kind::Words),
+            1 => Some(Kind::Encode),
+            2 => Some(Kind::Crc13),
+            3 => Some(Kind::Crc5),
+            4 => Some(Kind::Headers),
+            5 => Some(Kind::Writes),
+            6 => Some(Kind::Frames),
+            7 => Some(Kind::Pages),
+            8 => Some(Kind::Rows),
+            9 => Some(Kind::Shown),
+            10 => Some(Kind::Sheets),
+            11 => Some(Kind::Sources),
+            12 => Some(Kind::Wides),
+            13 => Some(Kind::Signs),
+            14 => Some(Kind::Calls),
+            15 => Some(Kind::Beesat),
+            16 => Some(Kind::Fields),
+            _ => None,
+        }
+    }
+}
 
 // Room for every record and for every reply. The longest are one of `crc13` and one of `sheets`.
 pub const RECORD_BYTES: usize = LENGTH + PAYLOAD_ROOM;
@@ -174,32 +188,30 @@ pub const FRAME_AFTER: usize = VALUES + LENGTH;
 #[derive(Clone, Copy)]
 pub struct Sizes(pub usize, pub usize);
 
-// Both are 0 where the byte is no kind.
-pub fn sizes_of(kind: u8) -> Sizes
+pub fn sizes_of(kind: Kind) -> Sizes
     ensures result_le_record_bytes { result.0 ≤ RECORD_BYTES }
     ensures result_le_reply_bytes { result.1 ≤ REPLY_BYTES }
 {
     match kind {
-        WORDS => Sizes(2, 2 + 2 * REPAIRED),
-        ENCODE => Sizes(1, 1 + 2),
-        CRC13 => Sizes(RECORD_BYTES, 2 + 2),
-        CRC5 => Sizes(EDITION + 65, 1),
-        HEADERS => Sizes(FRAMES_RULE, SHEET_AFTER),
-        WRITES => Sizes(WRITES_RULE + RULE, VALUES + 2 + AIR_ROOM),
-        FRAMES => Sizes(FRAMES_RULE + RULE, SHEET_AFTER),
-        PAGES => Sizes(
+        Kind::Words => Sizes(2, 2 + 2 * REPAIRED),
+        Kind::Encode => Sizes(1, 1 + 2),
+        Kind::Crc13 => Sizes(RECORD_BYTES, 2 + 2),
+        Kind::Crc5 => Sizes(EDITION + 65, 1),
+        Kind::Headers => Sizes(FRAMES_RULE, SHEET_AFTER),
+        Kind::Writes => Sizes(WRITES_RULE + RULE, VALUES + 2 + AIR_ROOM),
+        Kind::Frames => Sizes(FRAMES_RULE + RULE, SHEET_AFTER),
+        Kind::Pages => Sizes(
             LENGTH + PAGE_ROOM,
             VALUES + 4 + 2 + 1 + 2 + 6 + 2 + 4 + 17 * 2 + 8 + 8,
         ),
-        ROWS => Sizes(ROWS_ROOM + 2, VALUES + 2 + USER_ROOM),
-        SHOWN => Sizes(RAW + 2, VALUES + 8),
-        SHEETS => Sizes(SHEETS_RULE + RULE, SHEET_AFTER + SHEET),
-        SOURCES => Sizes(SOURCES_NUMBER + 1, 2 * LANE + 8 + 8),
-        WIDES => Sizes(WIDES_RULE + RULE, WIDE_HEARD + 8),
-        SIGNS => Sizes(SIGNS_RULE + RULE, SHEET_AFTER),
-        CALLS => Sizes(1, 48),
-        BEESAT => Sizes(LENGTH + FRAME_ROOM, STATES + 16),
-        FIELDS => Sizes(FIELDS_FRAME + LENGTH + FRAME_ROOM, FRAME_AFTER + FRAME_ROOM),
-        _ => Sizes(0, 0),
+        Kind::Rows => Sizes(ROWS_ROOM + 2, VALUES + 2 + USER_ROOM),
+        Kind::Shown => Sizes(RAW + 2, VALUES + 8),
+        Kind::Sheets => Sizes(SHEETS_RULE + RULE, SHEET_AFTER + SHEET),
+        Kind::Sources => Sizes(SOURCES_NUMBER + 1, 2 * LANE + 8 + 8),
+        Kind::Wides => Sizes(WIDES_RULE + RULE, WIDE_HEARD + 8),
+        Kind::Signs => Sizes(SIGNS_RULE + RULE, SHEET_AFTER),
+        Kind::Calls => Sizes(1, 48),
+        Kind::Beesat => Sizes(LENGTH + FRAME_ROOM, STATES + 16),
+        Kind::Fields => Sizes(FIELDS_FRAME + LENGTH + FRAME_ROOM, FRAME_AFTER + FRAME_ROOM),
     }
 }

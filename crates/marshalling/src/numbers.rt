@@ -20,7 +20,7 @@ pub fn two_at(bytes: &[u8], at: usize) -> u64
     ensures value { result ≡ two_at bytes.now at }
     ensures upper_bound { result < 2 ^ 16 }
 {
-    wide(bytes[at]) * 0x100 + wide(bytes[at + 1])
+    u16::from_be_bytes([bytes[at], bytes[at + 1]]) as u64
 }
 
 pub fn four_at(bytes: &[u8], at: usize) -> u64
@@ -28,7 +28,7 @@ pub fn four_at(bytes: &[u8], at: usize) -> u64
     ensures value { result ≡ four_at bytes.now at }
     ensures upper_bound { result < 2 ^ 32 }
 {
-    two_at(bytes, at) * 0x1_0000 + two_at(bytes, at + 2)
+    u32::from_be_bytes([bytes[at], bytes[at + 1], bytes[at + 2], bytes[at + 3]]) as u64
 }
 
 pub fn eight_at(bytes: &[u8], at: usize) -> u64
@@ -52,11 +52,7 @@ pub fn length_at(bytes: &[u8], at: usize, most: usize) -> usize
     ensures value { result ≡ min most (two_at bytes.now at) }
     ensures upper_bound { result ≤ most }
 {
-    let length = two_at(bytes, at) as usize;
-    if most < length {
-        return most;
-    }
-    length
+    most.min(two_at(bytes, at) as usize)
 }
 
 // The bytes from a place up to another.
@@ -81,11 +77,9 @@ pub fn fill(bytes: &mut [u8], n: usize, start: u8, step: u8)
     requires { n ≤ length bytes.old }
 {
     let mut byte = start;
-    let mut k = 0;
-    while k < n {
-        bytes[k] = byte;
-        byte = std::num::wrapping_add_u8(byte, step);
-        k += 1;
+    for place in &mut bytes[..n] {
+        *place = byte;
+        byte = byte.wrapping_add(step);
     }
 }
 
@@ -113,20 +107,17 @@ pub fn put_bytes(reply: &mut Reply, at: usize, bytes: &[u8]) -> usize
     requires { at + length bytes.now ≤ REPLY_BYTES }
     ensures { result ≡ at + length bytes.now }
 {
-    let mut k = 0;
-    while k < bytes.len() {
-        reply[at + k] = bytes[k];
-        k += 1;
-    }
-    at + k
+    let end = at + bytes.len();
+    reply[at..end].copy_from_slice(bytes);
+    end
 }
 
+// (Three widths, one line each: a trait over the widths would be longer.)
 pub fn put_two(reply: &mut Reply, at: usize, n: u16) -> usize
     requires { at + 2 ≤ REPLY_BYTES }
     ensures { result ≡ at + 2 }
 {
-    let next = put_byte(reply, at, (n / 0x100) as u8);
-    put_byte(reply, next, (n % 0x100) as u8)
+    put_bytes(reply, at, &n.to_be_bytes())
 }
 
 // Puts numbers of two bytes one after the other.
@@ -135,10 +126,8 @@ pub fn put_twos(reply: &mut Reply, at: usize, numbers: &[u16]) -> usize
     ensures { result ≡ at + 2 * length numbers.now }
 {
     let mut next = at;
-    let mut k = 0;
-    while k < numbers.len() {
-        next = put_two(reply, next, numbers[k]);
-        k += 1;
+    for &n in numbers {
+        next = put_two(reply, next, n);
     }
     next
 }
@@ -147,16 +136,14 @@ pub fn put_four(reply: &mut Reply, at: usize, n: u32) -> usize
     requires { at + 4 ≤ REPLY_BYTES }
     ensures { result ≡ at + 4 }
 {
-    let next = put_two(reply, at, (n / 0x1_0000) as u16);
-    put_two(reply, next, (n % 0x1_0000) as u16)
+    put_bytes(reply, at, &n.to_be_bytes())
 }
 
 pub fn put_eight(reply: &mut Reply, at: usize, n: u64) -> usize
     requires { at + 8 ≤ REPLY_BYTES }
     ensures { result ≡ at + 8 }
 {
-    let next = put_four(reply, at, (n / 0x1_0000_0000) as u32);
-    put_four(reply, next, (n % 0x1_0000_0000) as u32)
+    put_bytes(reply, at, &n.to_be_bytes())
 }
 
 // Puts a refusal: number and place.
@@ -167,8 +154,7 @@ pub fn put_refusal(reply: &mut Reply, why: Refusal) {
 
 // Puts the answer of a writer.
 pub fn put_written(reply: &mut Reply, answer: Written) {
-    match answer {
-        Written::Done => {}
-        Written::Refused(why) => put_refusal(reply, why),
+    if let Err(why) = answer {
+        put_refusal(reply, why);
     }
 }

@@ -1,13 +1,12 @@
 -- The marks of a piece reported, a buffer at a time: each header is counted once, and no more headers are counted than bits were passed.
 -- Assumes nothing.
 use mathlib.Core.Path.{◌≡◌, refl, sym, ap, ◌∙◌}
-use mathlib.Core.Bool.{true, false, false≢true}
+use mathlib.Core.Bool.{true, false}
 use mathlib.Core.List.{List}
 use Prim.Native.Nat.{ℕ, ◌+◌, ◌-◌, ◌<◌, ◌≤◌, zero-le}
 use native.Mathlib.Omega.{arith}
-use lib.ListN.{length, take}
+use lib.ListN.{length}
 use Rattle.base.specs.declared.Edition.{Edition}
-use Rattle.text.proofs.Sizes.{put_size}
 use Rattle.marks.specs.declared.State.{State}
 use Rattle.marks.specs.Pieces.{longest_recording, marks_at}
 use Rattle.lines.specs.declared.Tally.{Tally}
@@ -35,9 +34,6 @@ all_starts edition s piece out tally whole few room = record { whole = whole; in
 module _ (edition : Edition) (s : State) (piece : List ℕ) (start : Tally) (out₀ out : List ℕ) (tally : Tally) (at : ℕ)
     (so : Passing edition s piece start out₀ out tally at) (out' : List ℕ) (r : Told)
     (told : Reported edition s piece at tally out out' r) where
-  pub told_size : r.to ≡ length (take r.to out')
-  told_size = put_size told.text
-
   left_on : tally_over edition start (marks_at s piece 0) ≡ tally_over edition r.tally (marks_at s piece r.at)
   left_on =
       so.left
@@ -48,13 +44,10 @@ module _ (edition : Edition) (s : State) (piece : List ℕ) (start : Tally) (out
   all_few : total_of r.tally ≤ s.total + length piece
   all_few = omega (arith, told.few, told.inside)
 
-  pub all_failed : AllTold edition s piece start (record { tally = r.tally; wrote = false })
-  all_failed = record { few = all_few; counted = λ e. absurd (false≢true e) }
-
-  pub all_over : r.over ≡ true → AllTold edition s piece start (record { tally = r.tally; wrote = true })
+  pub all_over : r.over ≡ true → AllTold edition s piece start r.tally
   all_over none = record {
     few = all_few;
-    counted = λ e. tally_none edition r.tally ∙ ap (tally_over edition r.tally) (sym (told.over none)) ∙ sym left_on;
+    counted = tally_none edition r.tally ∙ ap (tally_over edition r.tally) (sym (told.over none)) ∙ sym left_on;
   }
 
   pub all_less : r.over ≡ false → length piece - r.at < length piece - at

@@ -2,210 +2,191 @@
 // the text from the heading to the last line, are `reporting`'s.
 #![tactic(auto)]
 
-ghost use Rattle.std.specs.Prelude.{◌≡◌, ◌+◌, ◌*◌, ◌<◌, ◌≤◌, length};
-ghost use Rattle.word.specs.Repairs.{syndromes};
+ghost use Rattle.std.specs.Prelude.{◌≡◌, ◌+◌, ◌≤◌, IfSome, length};
 ghost use Rattle.lines.specs.Tallies.{nothing_heard, total_of};
-ghost use Rattle.lines.specs.Rooms.{line_room};
 ghost use Rattle.marks.specs.Pieces.{longest_recording, fresh_state};
-ghost use Rattle.night.specs.Turns.{after_stop, AllTold, Moves, Goes, Whole, Closing};
-ghost use Rattle.streams.specs.declared.Next.TheVariants.{Done};
+ghost use Rattle.night.specs.Turns.{AllTold, Moves, Goes, Whole, Closing};
 
 use base::Edition;
 use lines::{Stop, Tally};
 use marks::State;
 use reporting::Opened;
-use streams::{Next, after_read, after_write, read_on, turns_left, write};
-use word::table::TABLE_ROWS;
+use streams::{Next, read_on, write};
+use word::table::Syndromes;
 
 // How much is read at once, and how much is written.
 const BUFFER_BYTES: usize = 65536;
 
-// What a piece's lines leave: the tally, and whether all writes went well.
-#[derive(Clone, Copy)]
-struct Progress {
-    tally: Tally,
-    wrote: bool,
-}
-
-// Writes the lines of all marks of a piece, a buffer at a time.
-fn report_all(
-    rt: HostRuntime,
-    table: &[u16; TABLE_ROWS],
+// What a search needs: the table and the edition.
+#[derive(Drop)]
+struct Searcher {
+    table: Syndromes,
     edition: Edition,
-    state: State,
-    piece: &[u8],
-    start: Tally,
-    out: &mut [u8],
-) -> Progress
-    requires table_value { table.now ≡ syndromes }
-    requires start_bound { total_of start ≤ state.total }
-    requires piece_bound { state.total + length piece.now ≤ longest_recording }
-    requires line_room_in_bounds { line_room ≤ length out.old }
-    ensures { AllTold edition state piece.now start result }
-{
-    let mut tally = start;
-    let mut at = 0;
-    loop {
-        let told = reporting::put_marks(table, edition, state, piece, at, tally, out);
-        let to = told.to;
-        let wrote = write(rt, &out[..to]);
-        tally = told.tally;
-        if !wrote {
-            return Progress {
-                tally,
-                wrote: false,
-            };
-        }
-        if told.over {
-            return Progress { tally, wrote: true };
-        }
-        at = told.at;
-    }
 }
 
-// What a turn leaves: the state, the tally, why the search stopped, how many bytes the read left in the buffer, and how to go on. It is
-// done where it stopped too.
+// What a turn leaves: the state, the tally, why the search stopped, how many bytes the read left in the buffer, and whether no more is read,
+// as where it stopped.
 #[derive(Clone, Copy)]
 struct Turned {
     state: State,
     tally: Tally,
     stop: Stop,
     end: usize,
-    next: Next,
+    over: bool,
 }
 
-// How to go on after a read, a stop or none, and the write that followed.
-fn after_stop(read: Next, stop: Stop, wrote: bool) -> Next
-    ensures { result ≡ after_stop read stop wrote }
-{
-    match stop {
-        Stop::Nowhere => after_write(read, wrote),
-        Stop::Stopped(why) => after_write(after_read(read, true), wrote),
+impl Searcher {
+    // Writes the lines of all marks of a piece, a buffer at a time, and answers the tally with them. None where a write fails.
+    fn report_all(
+        &self,
+        rt: HostRuntime,
+        state: State,
+        piece: &[u8],
+        start: Tally,
+        out: &mut [u8; BUFFER_BYTES],
+    ) -> Option<Tally>
+        requires start_bound { total_of start ≤ state.total }
+        requires piece_bound { state.total + length piece.now ≤ longest_recording }
+        ensures { IfSome result (AllTold self.now.edition state piece.now start) }
+    {
+        let mut tally = start;
+        let mut at = 0;
+        loop {
+            let told = reporting::put_marks(
+                &self.table,
+                self.edition,
+                state,
+                piece,
+                at,
+                tally,
+                out,
+            );
+            let to = told.to;
+            if !write(rt, &out[..to]) {
+                return None;
+            }
+            tally = told.tally;
+            if told.over {
+                return Some(tally);
+            }
+            at = told.at;
+        }
+    }
+
+    // Takes what was read, which may be nothing, and writes the lines of its marks. None where the read or a write failed.
+    fn take_bits(
+        &self,
+        rt: HostRuntime,
+        state: State,
+        tally: Tally,
+        read: Next,
+        bits: &[u8],
+        out: &mut [u8; BUFFER_BYTES],
+    ) -> Option<Turned>
+        requires { total_of tally ≤ state.total }
+        ensures { IfSome result (Moves self.now.edition state tally bits.now) }
+    {
+        let taking = reporting::take_front(state, bits);
+        let n = taking.n;
+        let tally = self.report_all(rt, state, &bits[..n], tally, out)?;
+        let state = taking.state;
+        let stop = taking.stop;
+        let over = match read {
+            Next::More => stop.is_some(),
+            Next::Done => true,
+            Next::Failed => {
+                return None;
+            }
+        };
+        Some(Turned {
+            state,
+            tally,
+            stop,
+            end: bits.len(),
+            over,
+        })
+    }
+
+    // Reads once, and takes what was read.
+    fn turn(
+        &self,
+        rt: HostRuntime,
+        state: State,
+        tally: Tally,
+        buf: &mut [u8; BUFFER_BYTES],
+        out: &mut [u8; BUFFER_BYTES],
+    ) -> Option<Turned>
+        requires { total_of tally ≤ state.total }
+        ensures { IfSome result (Goes self.now.edition state tally buf.new) }
+    {
+        let filled = read_on(rt, buf, 0);
+        let end = filled.end;
+        let read = filled.next;
+        self.take_bits(rt, state, tally, read, &buf[..end], out)
+    }
+
+    // Searches the input, read by read, up to its end or to why no more is taken. Where a read fails, the lines up to there are written, and
+    // None is answered.
+    fn search_input(
+        &self,
+        rt: HostRuntime,
+        start: Opened,
+        buf: &mut [u8; BUFFER_BYTES],
+        out: &mut [u8; BUFFER_BYTES],
+    ) -> Option<Turned>
+        requires state_value { start.state ≡ fresh_state }
+        requires tally_value { start.tally ≡ nothing_heard }
+        ensures { IfSome result (Whole self.now.edition buf.new) }
+    {
+        let mut state = start.state;
+        let mut tally = start.tally;
+        for _ in 0..u64::MAX {
+            let done = self.turn(rt, state, tally, buf, out)?;
+            if done.over {
+                return Some(done);
+            }
+            state = done.state;
+            tally = done.tally;
+        }
+        None
     }
 }
 
-// Takes what was read, which may be nothing, and writes the lines of its marks.
-fn take_bits(
-    rt: HostRuntime,
-    table: &[u16; TABLE_ROWS],
-    edition: Edition,
-    state: State,
-    tally: Tally,
-    read: Next,
-    bits: &[u8],
-    out: &mut [u8],
-) -> Turned
-    requires table_value { table.now ≡ syndromes }
-    requires tally_bound { total_of tally ≤ state.total }
-    requires line_room_in_bounds { line_room ≤ length out.old }
-    ensures { Moves edition state tally bits.now result }
-{
-    let taking = reporting::take_front(state, bits);
-    let n = taking.n;
-    let done = report_all(rt, table, edition, state, &bits[..n], tally, out);
-    let after = taking.state;
-    let counted = done.tally;
-    let stop = taking.stop;
-    Turned {
-        state: after,
-        tally: counted,
-        stop,
-        end: bits.len(),
-        next: after_stop(read, stop, done.wrote),
-    }
-}
-
-// Reads once, and takes what was read.
-fn turn(
-    rt: HostRuntime,
-    table: &[u16; TABLE_ROWS],
-    edition: Edition,
-    state: State,
-    tally: Tally,
-    buf: &mut [u8],
-    out: &mut [u8],
-) -> Turned
-    requires table_value { table.now ≡ syndromes }
-    requires tally_bound { total_of tally ≤ state.total }
-    requires buf_nonzero { 0 < length buf.old }
-    requires line_room_in_bounds { line_room ≤ length out.old }
-    ensures { Goes edition state tally buf.new result }
-{
-    let filled = read_on(rt, buf, 0);
-    let end = filled.end;
-    let read = filled.next;
-    take_bits(rt, table, edition, state, tally, read, &buf[..end], out)
-}
-
-// Writes the last line, after why the search stopped. There is none where it failed.
-fn finish(rt: HostRuntime, done: Turned, out: &mut [u8])
-    requires { 2 * line_room ≤ length out.old }
+// Writes the last line, after why the search stopped.
+fn finish(rt: HostRuntime, done: Turned, out: &mut [u8; BUFFER_BYTES])
     ensures { Closing done out.old out.new }
 {
-    let next = done.next;
-    match next {
-        Next::More => {}
-        Next::Failed => {}
-        Next::Done => {
-            let tally = done.tally;
-            let why = done.stop;
-            let n = reporting::close(done.state.total, tally, why, out);
-            write(rt, &out[..n]);
-        }
-    }
+    let tally = done.tally;
+    let why = done.stop;
+    let n = reporting::close(done.state.total, tally, why, out);
+    write(rt, &out[..n]);
 }
 
-// Searches the input, read by read, up to its end or to why no more is taken. Where a read fails, the lines up to there are written.
-// The turns are counted down from a number that no run uses up: each but the last reads a byte.
-fn search_input(
-    rt: HostRuntime,
-    table: &[u16; TABLE_ROWS],
-    edition: Edition,
-    start: Opened,
-    buf: &mut [u8],
-    out: &mut [u8],
-) -> Turned
-    requires table_value { table.now ≡ syndromes }
-    requires state_value { start.state ≡ fresh_state }
-    requires tally_value { start.tally ≡ nothing_heard }
-    requires buf_nonzero { 0 < length buf.old }
-    requires line_room_in_bounds { line_room ≤ length out.old }
-    ensures { result.next ≡ Done → Whole edition buf.new result }
-{
-    let mut state = start.state;
-    let mut tally = start.tally;
-    let mut turns = u64::MAX;
-    loop {
-        let done = turn(rt, table, edition, state, tally, buf, out);
-        let next = done.next;
-        turns = turns_left(turns, next);
-        if turns == 0 {
-            return done;
-        }
-        state = done.state;
-        tally = done.tally;
-    }
-}
-
-// The search through standard input under an edition, from the heading on.
+// The search through standard input under an edition, from the heading on. There is no last line where it failed.
 fn run(rt: HostRuntime, edition: Edition) {
-    let table = word::table::whole();
+    let searcher = Searcher {
+        table: Syndromes::new(),
+        edition,
+    };
     let mut buf = [0u8; BUFFER_BYTES];
     let mut out = [0u8; BUFFER_BYTES];
     let opened = reporting::open(&mut out);
     let n = opened.to;
     if write(rt, &out[..n]) {
-        let done = search_input(rt, &table, edition, opened, &mut buf, &mut out);
-        finish(rt, done, &mut out);
+        if let Some(done) = searcher.search_input(rt, opened, &mut buf, &mut out) {
+            finish(rt, done, &mut out);
+        }
     }
 }
 
 fn main(rt: HostRuntime) {
-    let asked = options::read(rt);
-    if asked.wrong || asked.strict {
-        options::tell(rt);
-        return;
+    match options::read(rt) {
+        Some(
+            options::Options {
+                strict: false,
+                edition,
+            },
+        ) => run(rt, edition),
+        _ => options::tell(rt),
     }
-    let edition = asked.edition;
-    run(rt, edition);
 }

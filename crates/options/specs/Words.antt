@@ -1,11 +1,13 @@
 -- The words that programs know, and what is asked for by words one after another.
 -- Assumes nothing.
-use Rattle.std.specs.Prelude.{◌≡◌, Bool, true, false, ◌||◌, cond, List, [], ◌∷◌, ℕ, eqb}
+use Rattle.std.specs.Prelude.{◌≡◌, Bool, true, false, cond, List, [], ◌∷◌, ℕ, eqb, Option, None, Some}
 use Rattle.base.specs.Checks.{check, first}
 use Rattle.base.specs.declared.Edition.{Edition}
 use Rattle.base.specs.declared.Edition.TheVariants.{Flown, Corrected}
 use Rattle.text.specs.Text.{ascii}
 use Rattle.options.specs.declared.Options.{Options}
+use Rattle.options.specs.declared.Request.{Request}
+use Rattle.options.specs.declared.Request.TheVariants.{Complete, LacksEdition}
 use Rattle.options.specs.declared.Word.{Word}
 use Rattle.options.specs.declared.Word.TheVariants.{Strict, NamesEdition, SaysFlown, SaysCorrected, Other}
 
@@ -30,46 +32,55 @@ pub record Given (r : Word) : Type 0 where
   pub bytes : List ℕ
   pub is : r ≡ word_of bytes
 
--- the edition is settled; a word is wrong
-abbrev pub settled_of : Options → Edition → Options
-settled_of o edition = record { strict = o.strict; edition = edition; named = false; wrong = o.wrong }
-
-abbrev pub mistaken_of : Options → Options
-mistaken_of o = record { strict = o.strict; edition = o.edition; named = false; wrong = true }
+-- the edition that a word says, if it says one
+abbrev pub edition_said : Word → Option Edition
+edition_said SaysFlown = Some Flown
+edition_said SaysCorrected = Some Corrected
+edition_said Strict = None
+edition_said NamesEdition = None
+edition_said Other = None
 
 -- after `--edition`
-abbrev pub edition_by : Options → Word → Options
-edition_by o SaysFlown = settled_of o Flown
-edition_by o SaysCorrected = settled_of o Corrected
-edition_by o Strict = mistaken_of o
-edition_by o NamesEdition = mistaken_of o
-edition_by o Other = mistaken_of o
+abbrev pub settled_of : Bool → Option Edition → Option Request
+settled_of strict None = None
+settled_of strict (Some edition) = Some (Complete (record { strict = strict; edition = edition }))
 
 -- elsewhere
-abbrev pub option_by : Options → Word → Options
-option_by o NamesEdition = record { strict = o.strict; edition = o.edition; named = true; wrong = o.wrong }
-option_by o Strict = record { strict = true; edition = o.edition; named = false; wrong = o.wrong }
-option_by o SaysFlown = mistaken_of o
-option_by o SaysCorrected = mistaken_of o
-option_by o Other = mistaken_of o
+abbrev pub option_by : Options → Word → Option Request
+option_by o NamesEdition = Some (LacksEdition o.strict)
+option_by o Strict = Some (Complete (record { strict = true; edition = o.edition }))
+option_by o SaysFlown = None
+option_by o SaysCorrected = None
+option_by o Other = None
 
-abbrev pub after_of : Options → Word → Options
-after_of o w = cond o.named (edition_by o w) (option_by o w)
+-- what is asked for with one more word; none where that is wrong there
+abbrev pub after_of : Request → Word → Option Request
+after_of (LacksEdition strict) w = settled_of strict (edition_said w)
+after_of (Complete o) w = option_by o w
 
--- words one after another
-abbrev pub after_all : Options → List Word → Options
-after_all o [] = o
-after_all o (w ∷ ws) = after_all (after_of o w) ws
+-- words one after another, up to one that is wrong
+abbrev pub one_after : Option Request → Word → Option Request
+one_after None w = None
+one_after (Some asked) w = after_of asked w
+
+abbrev pub after_all : Option Request → List Word → Option Request
+after_all asked [] = asked
+after_all asked (w ∷ ws) = after_all (one_after asked w) ws
 
 -- where nothing is asked for: the flown edition
-abbrev pub nothing_asked : Options
-nothing_asked = record { strict = false; edition = Flown; named = false; wrong = false }
+abbrev pub nothing_asked : Request
+nothing_asked = Complete (record { strict = false; edition = Flown })
 
 -- one that is still to come after `--edition` is missing
-abbrev pub in_all : Options → Options
-in_all o = record { strict = o.strict; edition = o.edition; named = false; wrong = o.wrong || o.named }
+abbrev pub in_all : Request → Option Options
+in_all (Complete o) = Some o
+in_all (LacksEdition strict) = None
+
+abbrev pub all_of : Option Request → Option Options
+all_of None = None
+all_of (Some asked) = in_all asked
 
 -- what is asked for by the words that the system hands over
-pub record Asked (r : Options) : Type 0 where
+pub record Asked (r : Option Options) : Type 0 where
   pub words : List Word
-  pub is : r ≡ in_all (after_all nothing_asked words)
+  pub is : r ≡ all_of (after_all (Some nothing_asked) words)

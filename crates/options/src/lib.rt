@@ -2,20 +2,17 @@
 #![tactic(auto)]
 
 ghost use Rattle.std.specs.Prelude.{◌≡◌};
-ghost use Rattle.options.specs.Numbers.{digit_of, parsed_of, Said};
-ghost use Rattle.options.specs.Words.{same_of, word_of, Given, settled_of, mistaken_of, edition_by, option_by, after_of, in_all, Asked};
+ghost use Rattle.options.specs.Numbers.{number_after, parsed_of, Said};
+ghost use Rattle.options.specs.Words.{word_of, Given, edition_said, after_of, in_all, Asked};
 
 use base::Edition;
 use std::env::{Env, FillError};
 
-// What was asked for. `named` is set between `--edition` and its word.
+// What was asked for.
 #[derive(Clone, Copy)]
 pub struct Options {
     pub strict: bool,
     pub edition: Edition,
-    named: bool,
-    // A word is none of those above, or is missing.
-    pub wrong: bool,
 }
 
 // The words that programs know, and any other.
@@ -28,41 +25,43 @@ pub enum Word {
     Other,
 }
 
-// Room for the longest of them and more.
-const ROOM: usize = 16;
-
-// Whether two slices are the same bytes.
-fn same(a: &[u8], b: &[u8]) -> bool
-    ensures { result ≡ same_of a.now b.now }
-{
-    let n = a.len();
-    if n != b.len() {
-        return false;
-    }
-    let mut i = 0;
-    while i < n {
-        if a[i] != b[i] {
-            return false;
+impl Word {
+    // The edition that it says, if it says one.
+    pub fn edition(self) -> Option<Edition>
+        ensures { result ≡ edition_said self }
+    {
+        match self {
+            Word::SaysFlown => Some(Edition::Flown),
+            Word::SaysCorrected => Some(Edition::Corrected),
+            Word::Strict | Word::NamesEdition | Word::Other => None,
         }
-        i += 1;
     }
-    true
 }
+
+// What the words so far ask for: either that is all of it, or the word after `--edition` is still to come, and they say whether to be strict.
+#[derive(Clone, Copy)]
+enum Request {
+    Complete(Options),
+    LacksEdition(bool),
+}
+
+// Room for the longest of the words that programs know, and more.
+const ROOM: usize = 16;
 
 // Which word some bytes are.
 fn known(bytes: &[u8]) -> Word
     ensures { result ≡ word_of bytes.now }
 {
-    if same(bytes, b"--strict") {
+    if bytes == b"--strict".as_slice() {
         return Word::Strict;
     }
-    if same(bytes, b"--edition") {
+    if bytes == b"--edition".as_slice() {
         return Word::NamesEdition;
     }
-    if same(bytes, b"flown") {
+    if bytes == b"flown".as_slice() {
         return Word::SaysFlown;
     }
-    if same(bytes, b"corrected") {
+    if bytes == b"corrected".as_slice() {
         return Word::SaysCorrected;
     }
     Word::Other
@@ -79,89 +78,33 @@ pub fn word_at(rt: HostRuntime, i: usize) -> Word
     }
 }
 
-// What was asked for, now under this edition.
-fn settled(asked: Options, edition: Edition) -> Options
-    ensures { result ≡ settled_of asked edition }
-{
-    Options {
-        strict: asked.strict,
-        edition,
-        named: false,
-        wrong: asked.wrong,
-    }
-}
-
-// What was asked for, with a wrong word.
-fn mistaken(asked: Options) -> Options
-    ensures { result ≡ mistaken_of asked }
-{
-    let edition = asked.edition;
-    Options {
-        strict: asked.strict,
-        edition,
-        named: false,
-        wrong: true,
-    }
-}
-
-// What is asked for with the word after `--edition`.
-fn after_edition(asked: Options, word: Word) -> Options
-    ensures { result ≡ edition_by asked word }
-{
-    match word {
-        Word::SaysFlown => settled(asked, Edition::Flown),
-        Word::SaysCorrected => settled(asked, Edition::Corrected),
-        Word::Strict => mistaken(asked),
-        Word::NamesEdition => mistaken(asked),
-        Word::Other => mistaken(asked),
-    }
-}
-
-// What is asked for with any other word.
-fn after_option(asked: Options, word: Word) -> Options
-    ensures { result ≡ option_by asked word }
-{
-    let edition = asked.edition;
-    match word {
-        Word::NamesEdition => Options {
-            strict: asked.strict,
-            edition,
-            named: true,
-            wrong: asked.wrong,
-        },
-        Word::Strict => Options {
-            strict: true,
-            edition,
-            named: false,
-            wrong: asked.wrong,
-        },
-        Word::SaysFlown => mistaken(asked),
-        Word::SaysCorrected => mistaken(asked),
-        Word::Other => mistaken(asked),
-    }
-}
-
-// What is asked for after a word.
-fn after(asked: Options, word: Word) -> Options
+// What is asked for with one more word. None where that is wrong there.
+fn after(asked: Request, word: Word) -> Option<Request>
     ensures { result ≡ after_of asked word }
 {
-    if asked.named {
-        return after_edition(asked, word);
+    match (asked, word) {
+        (Request::LacksEdition(strict), word) => {
+            let edition = word.edition()?;
+            Some(Request::Complete(Options { strict, edition }))
+        }
+        (Request::Complete(options), Word::Strict) => Some(Request::Complete(Options {
+            strict: true,
+            edition: options.edition,
+        })),
+        (Request::Complete(options), Word::NamesEdition) => Some(Request::LacksEdition(
+            options.strict,
+        )),
+        (Request::Complete(_), Word::SaysFlown | Word::SaysCorrected | Word::Other) => None,
     }
-    after_option(asked, word)
 }
 
 // What is asked for after the last word. One that is still to come after `--edition` is missing.
-fn in_all(asked: Options) -> Options
+fn in_all(asked: Request) -> Option<Options>
     ensures { result ≡ in_all asked }
 {
-    let strict = asked.strict;
-    let edition = asked.edition;
-    Options {
-        strict,
-        edition,
-        named: false,
-        wrong: asked.wrong || asked.named,
+    match asked {
+        Request::Complete(options) => Some(options),
+        Request::LacksEdition(_) => None,
     }
 }
 
@@ -178,22 +121,16 @@ fn word_count(rt: HostRuntime) -> usize {
     usize::MAX
 }
 
-// Reads all words.
-pub fn read(rt: HostRuntime) -> Options
+// Reads the words. None where one of them is wrong or is missing.
+pub fn read(rt: HostRuntime) -> Option<Options>
     ensures { Asked result }
 {
-    let mut asked = Options {
+    let mut asked = Request::Complete(Options {
         strict: false,
         edition: Edition::Flown,
-        named: false,
-        wrong: false,
-    };
-    let count = word_count(rt);
-    let mut i = 1;
-    while i < count {
-        let next = after(asked, word_at(rt, i));
-        asked = next;
-        i += 1;
+    });
+    for i in 1..word_count(rt) {
+        asked = after(asked, word_at(rt, i))?;
     }
     in_all(asked)
 }
@@ -206,54 +143,35 @@ pub fn tell(rt: HostRuntime) {
     );
 }
 
-// The most that a word may say.
-const MOST: u64 = 0xFFFF_FFFF;
-
 // Room for a word that says a number, with any zeros that it begins with.
 const NUMBER_ROOM: usize = 4096;
 
-// What a word says.
-#[derive(Clone, Copy)]
-pub enum Parsed {
-    Number(u32),
-    NoNumber,
-}
-
-// The number that some digits and one more make, or more than the most where that is no digit.
-fn next_number(number: u32, letter: u8) -> u64
-    ensures { result ≡ digit_of number letter }
+// The number that some digits and one more make, where that is a digit and the number is no more than the most.
+fn next_number(number: u32, letter: u8) -> Option<u32>
+    ensures { result ≡ number_after number letter }
 {
-    if letter < b'0' {
-        return MOST + 1;
+    if !letter.is_ascii_digit() {
+        return None;
     }
-    if b'9' < letter {
-        return MOST + 1;
-    }
-    number as u64 * 10 + (letter - b'0') as u64
+    number.checked_mul(10)?.checked_add((letter - b'0') as u32)
 }
 
-// The number that a word's decimal digits make.
-fn parse(word: &[u8]) -> Parsed
+// The number that a word's decimal digits make, if there are any and no letter is another.
+fn parse(word: &[u8]) -> Option<u32>
     ensures { result ≡ parsed_of word.now }
 {
-    if word.len() == 0 {
-        return Parsed::NoNumber;
+    if word.is_empty() {
+        return None;
     }
-    let mut number: u32 = 0;
-    let mut i = 0;
-    while i < word.len() {
-        let next = next_number(number, word[i]);
-        if MOST < next {
-            return Parsed::NoNumber;
-        }
-        number = next as u32;
-        i += 1;
+    let mut number = 0;
+    for letter in word {
+        number = next_number(number, *letter)?;
     }
-    Parsed::Number(number)
+    Some(number)
 }
 
-// What word i says. A word that is not there, or is longer than any number, says none.
-pub fn number(rt: HostRuntime, i: usize) -> Parsed
+// The number that word i says. A word that is not there, or is longer than any number, says none.
+pub fn number(rt: HostRuntime, i: usize) -> Option<u32>
     ensures { Said result }
 {
     let mut room = [0u8; NUMBER_ROOM];

@@ -2,12 +2,14 @@
 // `packing`'s. Where a line is wrong it stops, and tells on standard error which line, at which column, why, and what to write.
 #![tactic(auto)]
 
-ghost use Rattle.std.specs.Prelude.{◌*◌, ◌<◌, ◌≤◌, length};
+ghost use Rattle.std.specs.Prelude.{◌≡◌, ◌*◌, ◌<◌, ◌≤◌, false, length};
 ghost use Rattle.packing.specs.Lines.{longest_line};
+ghost use Rattle.packing.specs.Packing.{wrong_of};
 
-use packing::{Fault, Judged, is_wrong};
+use packing::{Fault, Judged};
 use std::io::Write;
-use streams::{is_done, read_on, send, turns_left, write};
+use streams::pump::{Taker, Turn, pump};
+use streams::write;
 
 // A record is less than twice as long as its line, so what is read at once is half of what is written.
 const BUFFER_BYTES: usize = 32768;
@@ -49,40 +51,46 @@ fn tell(rt: HostRuntime, line: u64, fault: Fault, column: usize) {
 
 // Tells what is wrong with a line, if anything is.
 fn tell_wrong(rt: HostRuntime, line: u64, judged: Judged) {
-    match judged {
-        Judged::Fine => {}
-        Judged::Wrong { fault, column } => {
-            tell(rt, line, fault, column);
+    if let Err(wrong) = judged {
+        tell(rt, line, wrong.fault, wrong.column);
+    }
+}
+
+// The lines under way: how many came before the piece, and whether one is wrong.
+#[derive(Drop)]
+struct Packer {
+    lines: u64,
+    judged: Judged,
+}
+
+impl Taker for Packer {
+    ghost fits = { λ buf out. (longest_line < buf) × (2 * buf ≤ out) };
+
+    ghost keeps = { λ p left. wrong_of p.judged ≡ false → left ≤ longest_line };
+
+    fn take(&mut self, buf: &mut [u8], end: usize, out: &mut [u8]) -> Turn {
+        let packed = packing::pack_piece(self.lines, buf, end, out);
+        self.lines = packed.state;
+        self.judged = packed.ending;
+        Turn {
+            left: packed.left,
+            to: packed.to,
+            over: packed.ending.is_err(),
         }
     }
 }
 
 // Packs the input, read by read. Where a read or a write fails, the records up to there are written, and nothing is told.
-// The turns are counted down from a number that no run uses up: each but the last reads a byte.
 fn pack(rt: HostRuntime, buf: &mut [u8], out: &mut [u8])
     requires longest_line_in_bounds { longest_line < length buf.old }
     requires buf_in_bounds { 2 * length buf.old ≤ length out.old }
 {
-    let mut lines = 0;
-    let mut judged = packing::open();
-    let mut kept = 0;
-    let mut ended = false;
-    let mut turns = u64::MAX;
-    while turns > 0 {
-        let filled = read_on(rt, buf, kept);
-        let end = filled.end;
-        let packed = packing::pack_piece(lines, buf, end, out);
-        lines = packed.lines;
-        let after = packed.judged;
-        judged = after;
-        kept = packed.left;
-        let read = filled.next;
-        let next = send(rt, out, packed.to, read, is_wrong(after));
-        ended = is_done(next);
-        turns = turns_left(turns, next);
-    }
-    if ended {
-        let last = packing::close(lines, judged, &buf[..kept], out);
+    let mut packer = Packer {
+        lines: 0,
+        judged: packing::open(),
+    };
+    if let Some(rest) = pump(rt, &mut packer, buf, out) {
+        let last = packing::close(packer.lines, packer.judged, &buf[..rest.left], out);
         let wrong = last.judged;
         if write(rt, &out[..last.to]) {
             tell_wrong(rt, last.line, wrong);
@@ -90,6 +98,7 @@ fn pack(rt: HostRuntime, buf: &mut [u8], out: &mut [u8])
     }
 }
 
+// (Each program has the buffers that its lines need: three lines, no shorter as one function.)
 fn main(rt: HostRuntime) {
     let mut buf = [0u8; BUFFER_BYTES];
     let mut out = [0u8; OUTPUT_BYTES];

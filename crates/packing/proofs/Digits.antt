@@ -1,6 +1,6 @@
 -- Letters as digits: the loops that look for a letter, for one that is no digit, and that put the bytes of digits.
 -- Assumes nothing.
-use Rattle.std.proofs.Common.{◌≡◌, ℕ, suc, ◌+◌, ◌-◌, ◌*◌, ◌<◌, ◌≤◌, Bool, eqb, leb, List, [], ◌∷◌, ◌++◌, length, get_or, drop, set, sym, refl, ◌∙◌, append_assoc, append-nil, zero-le, add-one, arith, length-drop, length-set, drop_of_length-le, drop-cons, eq-eqb, ne_eqb, le-leb, leb-false}
+use Rattle.std.proofs.Common.{◌≡◌, ℕ, suc, ◌+◌, ◌*◌, ◌/◌, ◌<◌, ◌≤◌, Bool, eqb, leb, List, [], ◌∷◌, ◌++◌, length, get_or, drop, set, sym, refl, ◌∙◌, append_assoc, append-nil, zero-le, add-one, arith, length-drop, length-set, drop_of_length-le, drop-cons, eq-eqb, ne_eqb, le-leb, leb-false}
 use borrow.Author.Tests.{lt-leb}
 use Rattle.base.specs.Lists.{place_in}
 use Rattle.base.proofs.Lowest.{Passed, starts, goes_on, stops, ends, lowest_is}
@@ -111,21 +111,25 @@ none_of_one [] h = refl
 none_of_one (x ∷ []) h = refl
 none_of_one (x ∷ y ∷ l) h = absurd (omega arith)
 
-module _ (before : List ℕ) (at : ℕ) (l out : List ℕ) (to i : ℕ) (so : Bytes before at (bytes_in l) (bytes_in (drop i l)) l out to i) where
-  pub hex_goes_on : (x : ℕ) → x ≡ digit_value (get_or l i 0) * 16 + digit_value (get_or l (i + 1) 0) → 1 < length l - i
-      → Bytes before at (bytes_in l) (bytes_in (drop (i + 2) l)) l (set out to x) (to + 1) (i + 2)
+module _ (before : List ℕ) (at : ℕ) (l out : List ℕ) (to k : ℕ) (so : Bytes before at (bytes_in l) (bytes_in (drop (2 * k) l)) l out to (2 * k)) where
+  pub hex_goes_on : (x : ℕ) → x ≡ digit_value (get_or l (2 * k) 0) * 16 + digit_value (get_or l (2 * k + 1) 0) → k < length l / 2
+      → Bytes before at (bytes_in l) (bytes_in (drop (2 * (k + 1)) l)) l (set out to x) (to + 1) (2 * (k + 1))
   hex_goes_on x is h =
-      let two : i + 2 ≡ suc (suc i) = omega arith in
+      let i : ℕ = 2 * k in
+      let next : 2 * (k + 1) ≡ suc (suc i) = omega arith in
       let second : drop (suc i) l ≡ get_or l (suc i) 0 ∷ drop (suc (suc i)) l = drop-cons l (suc i) 0 (omega arith) in
-      byte_more before at (bytes_in l) (bytes_in (drop i l)) l out to i so x (bytes_in (drop (i + 2) l)) (i + 2)
-      (rw (drop-cons l i 0 (omega arith), second, two, is, add-one i)) (omega arith) (omega arith)
+      byte_more before at (bytes_in l) (bytes_in (drop i l)) l out to i so x (bytes_in (drop (2 * (k + 1)) l)) (2 * (k + 1))
+      (rw (drop-cons l i 0 (omega arith), second, next, is, add-one i)) (omega arith) (omega arith)
 
-  pub hex_ends : length l - i ≤ 1 → Put before at (bytes_in l) out to
-  hex_ends h = bytes_end before at (bytes_in l) (bytes_in (drop i l)) l out to i so (none_of_one (drop i l) (rw length-drop h))
+  pub hex_room : k < length l / 2 → to < length out
+  hex_room h = bytes_room before at (bytes_in l) (bytes_in (drop (2 * k) l)) l out to (2 * k) so (omega arith)
 
-module _ (l : List ℕ) (i : ℕ) (are : AreDigits 16 l) (h : 1 < length l - i) where
-  pub high_digit : digit_value (get_or l i 0) < 16
-  high_digit = are.each i (omega arith)
+  pub hex_ends : length l / 2 ≤ k → Put before at (bytes_in l) out to
+  hex_ends h = bytes_end before at (bytes_in l) (bytes_in (drop (2 * k) l)) l out to (2 * k) so (none_of_one (drop (2 * k) l) (rw length-drop (omega arith)))
 
-  pub low_digit : digit_value (get_or l (i + 1) 0) < 16
-  low_digit = are.each (i + 1) (omega arith)
+module _ (l : List ℕ) (k : ℕ) (are : AreDigits 16 l) (h : k < length l / 2) where
+  pub high_digit : digit_value (get_or l (2 * k) 0) < 16
+  high_digit = are.each (2 * k) (omega arith)
+
+  pub low_digit : digit_value (get_or l (2 * k + 1) 0) < 16
+  low_digit = are.each (2 * k + 1) (omega arith)

@@ -4,9 +4,8 @@ use Rattle.std.proofs.Common.{◌≡◌, ℕ, ◌+◌, ◌-◌, ◌*◌, ◌<◌
 use lib.Seq.{take-length}
 use Rattle.base.specs.Lists.{place_in}
 use Rattle.text.proofs.Laid.{put_none}
-use Rattle.packing.specs.declared.Judged.TheVariants.{Fine}
 use Rattle.packing.specs.declared.Packed.{Packed}
-use Rattle.packing.specs.Lines.{longest_line, end_in, passed_over, header_in, digits_from, digits_in, pack_of}
+use Rattle.packing.specs.Lines.{fine, longest_line, end_in, passed_over, header_in, digits_from, digits_in, pack_of}
 use Rattle.packing.specs.Promises.{PacksParts, Packs}
 use Rattle.packing.proofs.Digits.{place_inside}
 
@@ -63,7 +62,7 @@ module _ (line : List ℕ) (end : ℕ) (is : end ≡ end_in line) (inside : end 
   size = length-take-le end line inside
 
   pub line_passed : (before : List ℕ) (at : ℕ) → at + 2 * length line ≤ length before → (b : Bool) → b ≡ passed_over (take end line) → b ≡ true
-      → Packs line before at before (record { judged = Fine; to = at })
+      → Packs line before at before (record { judged = fine; to = at })
   unfolding pack_of
   line_passed before at room b passed e =
       let yes : passed_over (take (end_in line) line) ≡ true = rw (← is) (sym passed ∙ e) in

@@ -9,10 +9,9 @@ use Rattle.walk.specs.Walks.{whole, behind, walk_of}
 use Rattle.walk.proofs.Walking.{walk_takes}
 use Rattle.record.specs.Records.{length_of}
 use Rattle.unpacking.specs.Lines.{bit_digits, hex_digits, header_text, payload_text, text_line}
-use Rattle.packing.specs.declared.Judged.TheVariants.{Fine}
 use Rattle.packing.specs.declared.Front.TheVariants.{Line}
 use Rattle.packing.specs.Digits.{digit_value, digits_ahead, AreDigits}
-use Rattle.packing.specs.Lines.{longest_line, header_digits, header_judged, payload_judged, judged_of, header_bytes, record_of, packed_by, packed_parts, end_in, letters_in, passed_over, header_in, digits_from, digits_in, pack_of}
+use Rattle.packing.specs.Lines.{fine, longest_line, header_digits, header_judged, payload_judged, judged_of, header_bytes, record_of, packed_by, packed_parts, end_in, letters_in, passed_over, header_in, digits_from, digits_in, pack_of}
 use Rattle.packing.specs.Packing.{front_of, lines_after, pack_walk}
 use Rattle.packing.proofs.Judging.{header_bits_lem, header_digits_lem, payload_whole, judge_on}
 use Rattle.packing.proofs.Lines.{passed_some, end_other, from_space, from_end}
@@ -33,7 +32,7 @@ record HeaderBack (header text : List ℕ) : Type 0 where
   pub are : AreDigits 16 text
   pub some : 0 < length text
   pub few : length text ≤ header_digits
-  pub fine : Fine ≡ header_judged text
+  pub fine : fine ≡ header_judged text
   pub back : header_bytes text ≡ header
 
 module _ (header : List ℕ) (size : length header ≡ air_bits) where
@@ -72,7 +71,7 @@ module _ (header : List ℕ) (size : length header ≡ air_bits) where
       by false e = text_bits (are_bits header (omega (arith, no_bit_le header, ltb-false (first_no_bit header) (length header) e)))
 
 -- a payload's digits are well
-payload_back : (column : ℕ) (payload : List ℕ) → length payload ≤ payload_limit → Fine ≡ payload_judged column (hex_digits payload)
+payload_back : (column : ℕ) (payload : List ℕ) → length payload ≤ payload_limit → fine ≡ payload_judged column (hex_digits payload)
 payload_back column payload few =
     let all : digits_ahead 16 (hex_digits payload) ≡ length (hex_digits payload) = ahead_all 16 (hex_digits payload) (hex_are payload) in
     payload_whole column (hex_digits payload) (omega (arith, hex_length payload)) (digits_ahead 16 (hex_digits payload)) refl (omega arith) (λ e. omega (arith, hex_length payload))
@@ -153,8 +152,8 @@ module _ (header payload : List ℕ) (size : length header ≡ air_bits) (few : 
   unfolding line
   parts = parts_back text payload (digits_free 32 text marks_are_none.2 (omega arith) good.are)
 
-  both_fine : judged_of text (hex_digits payload) ≡ Fine
-  both_fine = sym (judge_on text (hex_digits payload) Fine good.fine refl Fine (payload_back (length text + 2) payload few))
+  both_fine : judged_of text (hex_digits payload) ≡ fine
+  both_fine = sym (judge_on text (hex_digits payload) fine good.fine refl fine (payload_back (length text + 2) payload few))
 
   record_back : record_of text (hex_digits payload) ≡ record_bytes
   unfolding record_of
@@ -163,7 +162,7 @@ module _ (header payload : List ℕ) (size : length header ≡ air_bits) (few : 
       rw (half, good.back, hex_back payload payload-bytes)
 
   -- the letters of a record's line pack to that very record
-  line_back : pack_of line ≡ packed_by Fine record_bytes
+  line_back : pack_of line ≡ packed_by fine record_bytes
   unfolding pack_of packed_parts
   line_back = rw (all_letters, not_passed, parts.header_is, parts.digits_are, both_fine, record_back)
 

@@ -1,5 +1,6 @@
 -- THE RECORDS OF PIECES: however the lines are cut into pieces, the records are those of the whole, and so is what is told at the end.
 -- Assumes nothing.
+use Rattle.std.specs.Prelude.{Ok, Err}
 use Rattle.std.proofs.Common.{◌≡◌, ℕ, ◌+◌, ◌^◌, ◌<◌, ◌≤◌, eqb, List, [], ◌++◌, length, take, sym, refl, ap, ◌∙◌, ⊎_elim, true≢false, arith, length-append}
 use mathlib.Core.List.{flatten}
 use lib.ListN.{get_or-append}
@@ -10,11 +11,9 @@ use Rattle.base.proofs.Tests.{lt_or_ge}
 use Rattle.walk.specs.Walks.{Front as WalkFront, whole, stops, waits, Ended, waiting, stopped}
 use Rattle.walk.proofs.Walking.{Sound}
 use Rattle.walk.proofs.Feeding.{fed_whole}
-use Rattle.packing.specs.declared.Judged.{Judged}
-use Rattle.packing.specs.declared.Judged.TheVariants.{Fine, Wrong}
 use Rattle.packing.specs.declared.Front.{Front}
 use Rattle.packing.specs.declared.Front.TheVariants.{Line, TooLong, Unended}
-use Rattle.packing.specs.Lines.{longest_line, pack_of}
+use Rattle.packing.specs.Lines.{Judged, longest_line, pack_of}
 use Rattle.packing.specs.Packing.{front_of, judged_front, lines_after, line_front, pack_walk, scan_of}
 use Rattle.packing.specs.Pieces.{closed_of, whole_packed, streamed_of}
 use Rattle.packing.proofs.Digits.{is_mark, place_inside}
@@ -77,12 +76,12 @@ stops_waits : {why : Judged} → ◌≡◌ {A = WalkFront ℕ Judged} (stops why
 stops_waits e = let z : ◌≡◌ {A = ℕ} 0 1 = cc in omega arith
 
 judged_whole : (m n : ℕ) (j : Judged) → judged_front m j ≡ whole n → m ≡ n
-judged_whole m n Fine e = cc
-judged_whole m n (Wrong fault column) e = absurd (whole_stops (sym e))
+judged_whole m n (Ok u) e = cc
+judged_whole m n (Err why) e = absurd (whole_stops (sym e))
 
 judged_waits : (m : ℕ) (j : Judged) → judged_front m j ≡ waits → ⊥
-judged_waits m Fine e = whole_waits e
-judged_waits m (Wrong fault column) e = stops_waits e
+judged_waits m (Ok u) e = whole_waits e
+judged_waits m (Err why) e = stops_waits e
 
 front_whole : (l : List ℕ) (n : ℕ) → line_front l (front_of l) ≡ whole n → front_of l ≡ Line n
 front_whole l n e = by (front_of l) refl e

@@ -14,8 +14,7 @@ use Rattle.record.proofs.Walking.{front_whole}
 use Rattle.unpacking.specs.Lines.{text_line_in}
 use Rattle.unpacking.specs.Unpacking.{line_walk, unpacked_of, scan_of as unpackScan}
 use Rattle.unpacking.proofs.Streaming.{line_sound}
-use Rattle.packing.specs.declared.Judged.{Judged}
-use Rattle.packing.specs.Lines.{passed_over, end_in, pack_of}
+use Rattle.packing.specs.Lines.{Judged, passed_over, end_in, pack_of}
 use Rattle.packing.specs.Packing.{lines_after, pack_walk}
 use Rattle.packing.specs.Pieces.{whole_packed}
 use Rattle.packing.proofs.Streaming.{pack_sound}

@@ -1,12 +1,12 @@
 -- What a line packs to: nothing, a record, or what is wrong with it.
 -- Assumes nothing.
-use Rattle.std.specs.Prelude.{ℕ, ◌+◌, ◌-◌, ◌*◌, ◌/◌, ◌%◌, Bool, true, cond, List, [], ◌∷◌, ◌++◌, length, take, drop, ◌==◌, nat_lt, slice_index}
+use Rattle.std.specs.Prelude.{ℕ, ◌+◌, ◌-◌, ◌*◌, ◌/◌, ◌%◌, Bool, true, cond, List, [], ◌∷◌, ◌++◌, length, take, drop, ◌==◌, nat_lt, slice_index, Result, Ok, Err}
 use Rattle.base.specs.Checks.{check, first}
 use Rattle.base.specs.Lists.{place_in}
 use Rattle.air.specs.Air.{air_bits, payload_limit}
 use Rattle.record.specs.Records.{length_of}
-use Rattle.packing.specs.declared.Judged.{Judged}
-use Rattle.packing.specs.declared.Judged.TheVariants.{Fine, Wrong}
+use Rattle.packing.specs.declared.Wrong.{Wrong}
+use Rattle.packing.specs.declared.Fault.{Fault}
 use Rattle.packing.specs.declared.Fault.TheVariants.{NoHeader, NoBit, NoHexDigit, ManyBytes, OddDigits}
 use Rattle.packing.specs.Digits.{digits_ahead, bits_in, bytes_in}
 
@@ -21,26 +21,36 @@ header_digits = 2 * air_bits
 abbrev pub most_digits : ℕ
 most_digits = 2 * payload_limit
 
+-- whether a line is well, or what is wrong with it and at which column
+abbrev pub Judged : Type 0
+Judged = Result (Unit {0}) Wrong
+
+abbrev pub fine : Judged
+fine = Ok tt
+
+abbrev pub wrong : Fault → ℕ → Judged
+wrong fault column = Err (record { fault = fault; column = column })
+
 -- a header is 210 bits or 420 hex digits; columns count from 1
 unfoldable pub header_judged : List ℕ → Judged
 header_judged header =
-    cond (length header == air_bits) (cond (nat_lt (digits_ahead 2 header) (length header)) (Wrong NoBit (digits_ahead 2 header + 1)) Fine)
-    (cond (length header == header_digits) (cond (nat_lt (digits_ahead 16 header) (length header)) (Wrong NoHexDigit (digits_ahead 16 header + 1)) Fine)
-    (Wrong NoHeader (length header + 1)))
+    cond (length header == air_bits) (cond (nat_lt (digits_ahead 2 header) (length header)) (wrong NoBit (digits_ahead 2 header + 1)) fine)
+    (cond (length header == header_digits) (cond (nat_lt (digits_ahead 16 header) (length header)) (wrong NoHexDigit (digits_ahead 16 header + 1)) fine)
+    (wrong NoHeader (length header + 1)))
 
 -- a payload, whose first digit stands at a column, is up to 1,023 whole bytes in hex
 unfoldable pub payload_judged : ℕ → List ℕ → Judged
 payload_judged column digits =
-    first Fine
-    (check (nat_lt most_digits (length digits)) (Wrong ManyBytes (column + most_digits))
-    ∷ check (nat_lt (digits_ahead 16 digits) (length digits)) (Wrong NoHexDigit (column + digits_ahead 16 digits))
-    ∷ check (digits_ahead 16 digits % 2 == 1) (Wrong OddDigits (column + digits_ahead 16 digits))
+    first fine
+    (check (nat_lt most_digits (length digits)) (wrong ManyBytes (column + most_digits))
+    ∷ check (nat_lt (digits_ahead 16 digits) (length digits)) (wrong NoHexDigit (column + digits_ahead 16 digits))
+    ∷ check (digits_ahead 16 digits % 2 == 1) (wrong OddDigits (column + digits_ahead 16 digits))
     ∷ [])
 
 -- the payload is looked at where the header is well
 abbrev pub then_judged : Judged → Judged → Judged
-then_judged (Wrong fault column) next = Wrong fault column
-then_judged Fine next = next
+then_judged (Err why) next = Err why
+then_judged (Ok u) next = next
 
 -- the two parts of a line: the payload's first digit stands after the header and a space
 unfoldable pub judged_of : List ℕ → List ℕ → Judged
@@ -59,8 +69,8 @@ pub record Packing : Type 0 where
   pub bytes : List ℕ
 
 abbrev pub packed_by : Judged → List ℕ → Packing
-packed_by Fine bytes = record { judged = Fine; bytes = bytes }
-packed_by (Wrong fault column) bytes = record { judged = Wrong fault column; bytes = [] }
+packed_by (Ok u) bytes = record { judged = Ok u; bytes = bytes }
+packed_by (Err why) bytes = record { judged = Err why; bytes = [] }
 
 unfoldable pub packed_parts : List ℕ → List ℕ → Packing
 packed_parts header digits = packed_by (judged_of header digits) (record_of header digits)
@@ -89,7 +99,7 @@ digits_in l = drop (digits_from l) l
 
 -- WHAT A LINE PACKS TO
 abbrev pub pack_letters : List ℕ → Packing
-pack_letters l = cond (passed_over l) (packed_by Fine []) (packed_parts (header_in l) (digits_in l))
+pack_letters l = cond (passed_over l) (packed_by fine []) (packed_parts (header_in l) (digits_in l))
 
 unfoldable pub pack_of : List ℕ → Packing
 pack_of line = pack_letters (letters_in line)

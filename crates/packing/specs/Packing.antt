@@ -1,20 +1,18 @@
 -- The records of lines one after the other.
 -- Assumes nothing.
-use Rattle.std.specs.Prelude.{ℕ, ◌+◌, ◌%◌, ◌^◌, Bool, true, false, List, [], ◌∷◌, length, take, nat_lt}
+use Rattle.std.specs.Prelude.{ℕ, ◌+◌, ◌%◌, ◌^◌, Bool, true, false, List, [], ◌∷◌, length, take, nat_lt, Ok, Err}
 use Rattle.base.specs.Checks.{check, first}
 use Rattle.base.specs.Lists.{place_in}
 use Rattle.walk.specs.Walks.{Front as WalkFront, whole, stops, waits, Walk, Ended, waiting, stopped, Walked, walk_of}
-use Rattle.packing.specs.declared.Judged.{Judged}
-use Rattle.packing.specs.declared.Judged.TheVariants.{Fine, Wrong}
 use Rattle.packing.specs.declared.Fault.TheVariants.{LongLine}
 use Rattle.packing.specs.declared.Front.{Front}
 use Rattle.packing.specs.declared.Front.TheVariants.{Line, TooLong, Unended}
-use Rattle.packing.specs.Lines.{longest_line, pack_of}
+use Rattle.packing.specs.Lines.{longest_line, Judged, wrong, pack_of}
 
 -- whether a line is wrong
 abbrev pub wrong_of : Judged → Bool
-wrong_of Fine = false
-wrong_of (Wrong fault column) = true
+wrong_of (Ok u) = false
+wrong_of (Err why) = true
 
 -- what stands at the front of some bytes: a line ends at the first line feed
 unfoldable pub front_of : List ℕ → Front
@@ -30,12 +28,12 @@ lines_after lines more = (lines + more) % 2 ^ 64
 
 -- a whole line is packed where it is well, and a wrong one stops what is packed
 abbrev pub judged_front : ℕ → Judged → WalkFront ℕ Judged
-judged_front n Fine = whole n
-judged_front n (Wrong fault column) = stops (Wrong fault column)
+judged_front n (Ok u) = whole n
+judged_front n (Err why) = stops (Err why)
 
 abbrev pub line_front : List ℕ → Front → WalkFront ℕ Judged
 line_front l (Line n) = judged_front n (pack_of (take n l)).judged
-line_front l TooLong = stops (Wrong LongLine (longest_line + 1))
+line_front l TooLong = stops (wrong LongLine (longest_line + 1))
 line_front l Unended = waits
 
 -- lines one after the other: how many there were is kept, and a line's text is its record
@@ -44,8 +42,8 @@ pack_walk = record { cut = λ lines l. line_front l (front_of l); size = λ n. n
 
 -- how it ended, by what is wrong with the next line
 abbrev pub judged_ends : Judged → Ended Judged
-judged_ends Fine = waiting
-judged_ends (Wrong fault column) = stopped (Wrong fault column)
+judged_ends (Ok u) = waiting
+judged_ends (Err why) = stopped (Err why)
 
 -- what becomes of some bytes, the first lines being counted from 0
 abbrev pub scan_of : List ℕ → Walked ℕ Judged

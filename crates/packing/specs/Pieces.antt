@@ -2,9 +2,7 @@
 -- Assumes nothing.
 use Rattle.std.specs.Prelude.{ℕ, List, []}
 use Rattle.walk.specs.Walks.{Ended, waiting, stopped, Closed, told_of, walk_of, fed_of}
-use Rattle.packing.specs.declared.Judged.{Judged}
-use Rattle.packing.specs.declared.Judged.TheVariants.{Fine}
-use Rattle.packing.specs.Lines.{pack_of}
+use Rattle.packing.specs.Lines.{Judged, fine, pack_of}
 use Rattle.packing.specs.Packing.{lines_after, pack_walk}
 
 -- the number of the line that was judged last, and what is wrong with it
@@ -14,7 +12,7 @@ pub record LastLine : Type 0 where
 
 -- OPEN: no line is wrong yet
 abbrev pub opened : Judged
-opened = Fine
+opened = fine
 
 -- CLOSE: where no line is wrong, what is left is a line that no line feed ended; a wrong one has no bytes, and stays wrong
 abbrev pub closed_of : ℕ → Ended Judged → List ℕ → Closed LastLine

@@ -2,10 +2,9 @@
 -- Assumes nothing.
 use Rattle.std.specs.Prelude.{◌≡◌, ℕ, ◌+◌, ◌*◌, ◌≤◌, List, length}
 use Rattle.text.specs.Text.{Put}
-use Rattle.packing.specs.declared.Judged.{Judged}
 use Rattle.packing.specs.declared.Packed.{Packed}
 use Rattle.packing.specs.declared.Ended.{Ended}
-use Rattle.packing.specs.Lines.{packed_parts, pack_of}
+use Rattle.packing.specs.Lines.{Judged, packed_parts, pack_of}
 use Rattle.packing.specs.Packing.{judged_ends}
 use Rattle.packing.specs.Pieces.{closed_of}
 

@@ -7,13 +7,14 @@ ghost use Rattle.base.specs.Lists.{place_in};
 ghost use Rattle.text.specs.Text.{Put};
 ghost use Rattle.record.specs.Records.{length_of};
 ghost use Rattle.packing.specs.Digits.{digit_value, digits_ahead, AreDigits, bits_in, bytes_in};
-ghost use Rattle.packing.specs.Lines.{longest_line, header_judged, payload_judged, judged_of, header_bytes, record_of, end_in, passed_over, digits_from};
+ghost use Rattle.packing.specs.Lines.{longest_line, fine, header_judged, payload_judged, judged_of, header_bytes, record_of, end_in, passed_over, digits_from};
 ghost use Rattle.walk.specs.Scans.{Scanned, Turned};
 ghost use Rattle.packing.specs.Packing.{front_of, wrong_of, pack_walk, judged_ends};
 ghost use Rattle.packing.specs.Pieces.{opened};
 ghost use Rattle.packing.specs.Promises.{PacksParts, Packs, Closes};
 
 use air::{AIR_BITS, LONGEST_PAYLOAD};
+use walk::Listed;
 
 // The most letters of a line before its line feed, also of one that is passed over. The longest line of a record has 2,467.
 pub const LONGEST_LINE: usize = 4095;
@@ -23,7 +24,7 @@ const HEADER_DIGITS: usize = 2 * AIR_BITS;
 
 const MOST_DIGITS: usize = 2 * LONGEST_PAYLOAD;
 
-// What digit_value answers for a letter that is no digit.
+// What digit_value answers for a letter that is no digit: it is above every digit, so that one test tells both from the digits of a base.
 const NO_DIGIT: u8 = 16;
 
 // What is wrong with a line.
@@ -43,28 +44,21 @@ pub enum Fault {
     LongLine,
 }
 
-// Whether a line is well, or what is wrong with it and at which column.
+// What is wrong with a line, and at which column.
 #[derive(Clone, Copy)]
-pub enum Judged {
-    Fine,
-    Wrong { fault: Fault, column: usize },
+pub struct Wrong {
+    pub fault: Fault,
+    pub column: usize,
 }
+
+// Whether a line is well, or what is wrong with it.
+pub type Judged = Result<(), Wrong>;
 
 // A line was packed: whether it is well, and the place after its record.
 #[derive(Clone, Copy)]
 pub struct Packed {
     pub judged: Judged,
     pub to: usize,
-}
-
-// Some lines were packed: the lines before what is left, how many bytes are left, the place after the records, and what is wrong with the
-// line that is left.
-#[derive(Clone, Copy)]
-pub struct PackedLines {
-    pub lines: u64,
-    pub left: usize,
-    pub to: usize,
-    pub judged: Judged,
 }
 
 // The input has ended, or a line is wrong: the place after the last record, and the number of the line that was judged.
@@ -90,39 +84,24 @@ pub enum Front {
 fn digit_value(letter: u8) -> u8
     ensures { result ≡ digit_value letter }
 {
-    if letter < b'0' {
-        return NO_DIGIT;
+    match letter {
+        b'0'..=b'9' => letter - b'0',
+        b'A'..=b'F' => 10 + (letter - b'A'),
+        b'a'..=b'f' => 10 + (letter - b'a'),
+        _ => NO_DIGIT,
     }
-    if letter <= b'9' {
-        return letter - b'0';
-    }
-    if letter < b'A' {
-        return NO_DIGIT;
-    }
-    if letter <= b'F' {
-        return 10 + (letter - b'A');
-    }
-    if letter < b'a' {
-        return NO_DIGIT;
-    }
-    if letter <= b'f' {
-        return 10 + (letter - b'a');
-    }
-    NO_DIGIT
 }
 
 // The place of the first such letter; the length where there is none.
 fn find(letters: &[u8], mark: u8) -> usize
     ensures { result ≡ place_in letters.now mark }
 {
-    let mut i = 0;
-    while i < letters.len() {
+    for i in 0..letters.len() {
         if letters[i] == mark {
             return i;
         }
-        i += 1;
     }
-    i
+    letters.len()
 }
 
 // How many digits of a base stand in front.
@@ -130,14 +109,12 @@ fn digits_ahead(letters: &[u8], base: u8) -> usize
     ensures value { result ≡ digits_ahead base letters.now }
     ensures upper_bound { result ≤ length letters.now }
 {
-    let mut i = 0;
-    while i < letters.len() {
+    for i in 0..letters.len() {
         if base <= digit_value(letters[i]) {
             return i;
         }
-        i += 1;
     }
-    i
+    letters.len()
 }
 
 // Puts a byte for each digit.
@@ -147,11 +124,9 @@ fn put_bits(out: &mut [u8], at: usize, letters: &[u8]) -> usize
     ensures upper_bound { result ≤ at + length letters.now }
 {
     let mut to = at;
-    let mut i = 0;
-    while i < letters.len() {
+    for i in 0..letters.len() {
         out[to] = digit_value(letters[i]);
         to += 1;
-        i += 1;
     }
     to
 }
@@ -172,11 +147,9 @@ fn put_hex(out: &mut [u8], at: usize, letters: &[u8]) -> usize
     ensures upper_bound { result ≤ at + length letters.now }
 {
     let mut to = at;
-    let mut i = 0;
-    while 1 < letters.len() - i {
-        out[to] = byte_of(letters[i], letters[i + 1]);
+    for k in 0..letters.len() / 2 {
+        out[to] = byte_of(letters[2 * k], letters[2 * k + 1]);
         to += 1;
-        i += 2;
     }
     to
 }
@@ -190,27 +163,27 @@ fn judge_header(header: &[u8]) -> Judged
     if n == AIR_BITS {
         let bits = digits_ahead(header, 2);
         if bits < n {
-            return Judged::Wrong {
+            return Err(Wrong {
                 fault: Fault::NoBit,
                 column: bits + 1,
-            };
+            });
         }
-        return Judged::Fine;
+        return Ok(());
     }
     if n == HEADER_DIGITS {
         let digits = digits_ahead(header, 16);
         if digits < n {
-            return Judged::Wrong {
+            return Err(Wrong {
                 fault: Fault::NoHexDigit,
                 column: digits + 1,
-            };
+            });
         }
-        return Judged::Fine;
+        return Ok(());
     }
-    Judged::Wrong {
+    Err(Wrong {
         fault: Fault::NoHeader,
         column: n + 1,
-    }
+    })
 }
 
 // Whether a payload, whose first digit stands at a column, is whole bytes in hex.
@@ -219,25 +192,25 @@ fn judge_payload(digits: &[u8], column: usize) -> Judged
     ensures { result ≡ payload_judged column digits.now }
 {
     if MOST_DIGITS < digits.len() {
-        return Judged::Wrong {
+        return Err(Wrong {
             fault: Fault::ManyBytes,
             column: column + MOST_DIGITS,
-        };
+        });
     }
     let n = digits_ahead(digits, 16);
     if n < digits.len() {
-        return Judged::Wrong {
+        return Err(Wrong {
             fault: Fault::NoHexDigit,
             column: column + n,
-        };
+        });
     }
     if n % 2 == 1 {
-        return Judged::Wrong {
+        return Err(Wrong {
             fault: Fault::OddDigits,
             column: column + n,
-        };
+        });
     }
-    Judged::Fine
+    Ok(())
 }
 
 // Whether the two parts of a line are those of a record.
@@ -245,10 +218,8 @@ fn judge(header: &[u8], digits: &[u8]) -> Judged
     requires { length header.now ≤ longest_line }
     ensures { result ≡ judged_of header.now digits.now }
 {
-    match judge_header(header) {
-        Judged::Wrong { fault, column } => Judged::Wrong { fault, column },
-        Judged::Fine => judge_payload(digits, header.len() + 2),
-    }
+    judge_header(header)?;
+    judge_payload(digits, header.len() + 2)
 }
 
 // Puts a record's length, the high byte first.
@@ -264,7 +235,7 @@ fn put_size(out: &mut [u8], at: usize, n: usize) -> usize
 
 // Puts the bytes of a header that is well.
 fn put_header(out: &mut [u8], at: usize, header: &[u8]) -> usize
-    requires value { Judged.Fine ≡ header_judged header.now }
+    requires value { fine ≡ header_judged header.now }
     requires header_in_bounds { at + length header.now ≤ length out.old }
     ensures put { Put out.old at (header_bytes header.now) out.new result }
     ensures upper_bound { result ≤ at + length header.now }
@@ -277,7 +248,7 @@ fn put_header(out: &mut [u8], at: usize, header: &[u8]) -> usize
 
 // Puts the record of a line whose parts are well.
 fn put_record(out: &mut [u8], at: usize, header: &[u8], digits: &[u8]) -> usize
-    requires value { Judged.Fine ≡ judged_of header.now digits.now }
+    requires value { fine ≡ judged_of header.now digits.now }
     requires digits_in_bounds { at + (2 + (length header.now + length digits.now)) ≤ length out.old }
     ensures put { Put out.old at (record_of header.now digits.now) out.new result }
     ensures upper_bound { result ≤ at + (2 + (length header.now + length digits.now)) }
@@ -294,17 +265,14 @@ fn pack_parts(header: &[u8], digits: &[u8], out: &mut [u8], at: usize) -> Packed
     ensures { PacksParts header.now digits.now out.old at out.new result }
 {
     match judge(header, digits) {
-        Judged::Wrong { fault, column } => Packed {
-            judged: Judged::Wrong { fault, column },
+        Err(wrong) => Packed {
+            judged: Err(wrong),
             to: at,
         },
-        Judged::Fine => {
-            let to = put_record(out, at, header, digits);
-            Packed {
-                judged: Judged::Fine,
-                to,
-            }
-        }
+        Ok(()) => Packed {
+            judged: Ok(()),
+            to: put_record(out, at, header, digits),
+        },
     }
 }
 
@@ -355,7 +323,7 @@ pub fn pack_line(line: &[u8], out: &mut [u8], at: usize) -> Packed
     let letters = &line[..end];
     if is_passed(letters) {
         return Packed {
-            judged: Judged::Fine,
+            judged: Ok(()),
             to: at,
         };
     }
@@ -382,48 +350,44 @@ fn next_line(rest: &[u8]) -> Front
 pub fn is_wrong(judged: Judged) -> bool
     ensures { result ≡ wrong_of judged }
 {
-    match judged {
-        Judged::Fine => false,
-        Judged::Wrong { .. } => true,
-    }
+    judged.is_err()
 }
 
 // All whole lines at the front of a piece, up to the first that is wrong: their records go into `out` from `at` on. A record is less
 // than twice as long as its line. `start` lines came before; a number of lines past 2^64, which no input reaches, would wrap.
-pub fn pack_lines(start: u64, piece: &[u8], out: &mut [u8], at: usize) -> PackedLines
+pub fn pack_lines(start: u64, piece: &[u8], out: &mut [u8], at: usize) -> Listed<u64, Judged>
     requires { at + 2 * length piece.now ≤ length out.old }
-    ensures { Scanned pack_walk 2 start piece.now out.old at out.new result.lines result.left result.to (judged_ends result.judged) }
+    ensures { Scanned pack_walk 2 start piece.now out.old at out.new result.state result.left result.to (judged_ends result.ending) }
 {
     let mut lines = start;
-    let mut used = 0;
+    let mut rest = piece;
     let mut to = at;
-    loop {
-        let rest = &piece[used..];
-        let judged = match next_line(rest) {
+    let ending = loop {
+        match next_line(rest) {
             Front::Line { end } => {
                 let packed = pack_line(&rest[..end], out, to);
                 to = packed.to;
                 let judged = packed.judged;
                 if is_wrong(judged) {
-                    judged
-                } else {
-                    lines = std::num::wrapping_add_u64(lines, 1);
-                    used += end + 1;
-                    continue;
+                    break judged;
                 }
+                lines = lines.wrapping_add(1);
+                rest = &rest[end + 1..];
             }
-            Front::TooLong => Judged::Wrong {
-                fault: Fault::LongLine,
-                column: LONGEST_LINE + 1,
-            },
-            Front::Unended => Judged::Fine,
-        };
-        return PackedLines {
-            lines,
-            left: rest.len(),
-            to,
-            judged,
-        };
+            Front::TooLong => {
+                break Err(Wrong {
+                    fault: Fault::LongLine,
+                    column: LONGEST_LINE + 1,
+                });
+            }
+            Front::Unended => break Ok(()),
+        }
+    };
+    Listed {
+        state: lines,
+        left: rest.len(),
+        to,
+        ending,
     }
 }
 
@@ -431,20 +395,20 @@ pub fn pack_lines(start: u64, piece: &[u8], out: &mut [u8], at: usize) -> Packed
 pub fn open() -> Judged
     ensures { result ≡ opened }
 {
-    let start = Judged::Fine;
+    let start = Ok(());
     start
 }
 
 // The first `end` bytes of a buffer, after so many lines: the records of their lines go into `out`, and what is left goes to the buffer's
 // front.
-pub fn pack_piece(lines: u64, buf: &mut [u8], end: usize, out: &mut [u8]) -> PackedLines
+pub fn pack_piece(lines: u64, buf: &mut [u8], end: usize, out: &mut [u8]) -> Listed<u64, Judged>
     requires end_in_bounds { end ≤ length buf.old }
     requires end_in_bounds_2 { 2 * end ≤ length out.old }
-    ensures { Turned pack_walk 2 lines buf.old end out.old buf.new out.new result.lines result.left result.to (judged_ends result.judged) }
+    ensures { Turned pack_walk 2 lines buf.old end out.old buf.new out.new result.state result.left result.to (judged_ends result.ending) }
 {
     let packed = pack_lines(lines, &buf[..end], out, 0);
     let left = packed.left;
-    walk::keep(buf, end - left, left);
+    walk::keep(buf, end, left);
     packed
 }
 
@@ -455,7 +419,7 @@ pub fn close(lines: u64, judged: Judged, rest: &[u8], out: &mut [u8]) -> Ended
     requires rest_in_bounds { 2 * length rest.now ≤ length out.old }
     ensures { Closes lines judged rest.now out.old out.new result }
 {
-    let line = std::num::wrapping_add_u64(lines, 1);
+    let line = lines.wrapping_add(1);
     if is_wrong(judged) {
         return Ended {
             to: 0,

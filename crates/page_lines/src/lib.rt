@@ -14,6 +14,7 @@ ghost use Rattle.page_lines.specs.Rooms.{head_room, page_room, closing_room};
 use header::Answer;
 use page::{PageAnswer, PageVerdict};
 use rows::put_rows;
+pub use rows::{PowerRow, put_name};
 use tables::ROWS;
 
 // How many records were pages so far, how many were accepted and were none, and how many were refused as frames.
@@ -40,19 +41,19 @@ pub fn count(counts: Counts, answer: Answer, verdict: PageVerdict) -> Counts
     let others = counts.others;
     let refused = counts.refused;
     match answer {
-        Answer::Accepted { header, flips } => match verdict {
-            PageVerdict::Read(_) => Counts {
+        Ok(_) => match verdict {
+            Ok(_) => Counts {
                 pages: pages + 1,
                 others,
                 refused,
             },
-            PageVerdict::Refused(_) => Counts {
+            Err(_) => Counts {
                 pages,
                 others: others + 1,
                 refused,
             },
         },
-        Answer::Refused(_) => Counts {
+        Err(_) => Counts {
             pages,
             others,
             refused: refused + 1,
@@ -95,8 +96,8 @@ fn put_answer(out: &mut [u8], at: usize, k: u64, src_id: u8, tx: u8, page: PageA
     let rows = page.rows;
     let verdict = page.verdict;
     match verdict {
-        PageVerdict::Read(_) => put_page(out, at, k, src_id, tx, rows),
-        PageVerdict::Refused(why) => lines::put_refused(out, at, k, why),
+        Ok(_) => put_page(out, at, k, src_id, tx, rows),
+        Err(why) => lines::put_refused(out, at, k, why),
     }
 }
 
@@ -107,19 +108,19 @@ pub fn put_record(out: &mut [u8], at: usize, k: u64, answer: Answer, page: PageA
     ensures upper_bound { result ≤ at + page_room }
 {
     match answer {
-        Answer::Accepted { header, flips } => put_answer(
+        Ok(accepted) => put_answer(
             out,
             at,
             k,
-            header.fields.src_id,
-            header.fields.fr_cnt_tx,
+            accepted.header.fields.src_id,
+            accepted.header.fields.fr_cnt_tx,
             page,
         ),
-        Answer::Refused(why) => lines::put_refused(out, at, k, why),
+        Err(why) => lines::put_refused(out, at, k, why),
     }
 }
 
-// Puts the first line.
+// Puts the first line. (Each listing has a text and a room of its own: one function of both would be `put_text` again.)
 pub fn put_title(out: &mut [u8]) -> usize
     requires { closing_room ≤ length out.old }
     ensures { Put out.old 0 title out.new result }
@@ -143,7 +144,7 @@ fn put_last(out: &mut [u8], at: usize, counts: Counts) -> usize
     )
 }
 
-// Puts the last line, after `cut` where the input was cut.
+// Puts the last line, after `cut` where the input was cut. (Alike in three listings; one function would take the last line as a closure, and be longer.)
 pub fn put_closing(out: &mut [u8], at: usize, counts: Counts, cut: bool) -> usize
     requires { at + closing_room ≤ length out.old }
     ensures { Put out.old at (closing_of counts cut) out.new result }

@@ -17,12 +17,6 @@ use Rattle.page_lines.specs.Rooms.{page_room}
 use Rattle.page_listing.specs.Listing.{growth, pages_full, page_walk}
 use Rattle.page_listing.proofs.Streaming.{page_sound}
 
-abbrev pub Scanning : Rules → Counts → List ℕ → List ℕ → ℕ → List ℕ → Counts → ℕ → ℕ → Type 0
-Scanning rules = scan.Scanning (page_walk rules) (page_sound rules) growth
-
-pub starts : (rules : Rules) (c : Counts) (l before : List ℕ) (at : ℕ) → at + growth * length l ≤ length before → Scanning rules c l before at before c 0 at
-starts rules c l before at room = scan.starts (page_walk rules) (page_sound rules) growth c l before at room
-
 pub is_full : (c : Counts) (k : ℕ) → k ≡ records_heard c → full_sheet ≤ k → pages_full c ≡ true
 is_full c k heard h = le-leb full_sheet (records_heard c) (omega arith)
 

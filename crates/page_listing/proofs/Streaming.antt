@@ -7,21 +7,17 @@ use Rattle.header.specs.declared.Rules.{Rules}
 use Rattle.walk.specs.Walks.{Closed, closed_by}
 use Rattle.walk.proofs.Walking.{Sound}
 use Rattle.walk.proofs.Feeding.{fed_whole}
-use Rattle.record.proofs.Stays.{air_stays, payload_stays}
 use Rattle.record.proofs.Walking.{record_sound, cut_settled}
 use Rattle.page_lines.specs.Counting.{no_counts}
 use Rattle.page_lines.specs.Lines.{title, closing_of}
-use Rattle.page_listing.specs.Listing.{pages_full, counts_in, lines_in, page_walk, pages_of, pages_fed}
+use Rattle.page_listing.specs.Listing.{page_reading, page_walk, pages_of, pages_fed}
 
 module _ (rules : Rules) where
   pub page_sound : Sound (page_walk rules)
-  page_sound = record_sound pages_full (counts_in rules) (lines_in rules) (record {
-    next_same = λ c l f n e. rw (air_stays l f n e, payload_stays l f n e);
-    text_same = λ c l f n e. rw (air_stays l f n e, payload_stays l f n e);
-  })
+  page_sound = record_sound (page_reading rules)
 
   pub whole_pages : (pieces : List (List ℕ)) → pages_fed rules pieces ≡ pages_of rules (flatten pieces)
   unfolding pages_fed pages_of
   whole_pages pieces =
       ap (λ (c : Closed (Unit {0})). title ++ c.text)
-      (fed_whole (page_walk rules) page_sound (closed_by closing_of) (cut_settled pages_full (counts_in rules) (lines_in rules) closing_of) no_counts pieces)
+      (fed_whole (page_walk rules) page_sound (closed_by closing_of) (cut_settled (page_reading rules) closing_of) no_counts pieces)

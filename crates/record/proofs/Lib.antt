@@ -1,4 +1,5 @@
 pub mod Cuts
+pub mod Splitting
 pub mod Stays
 pub mod Walking
 pub mod Scanning

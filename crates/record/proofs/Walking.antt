@@ -13,14 +13,14 @@ use Rattle.walk.specs.Walks.{Front, whole, stops, waits, Ended, waiting, stopped
 use Rattle.walk.specs.Scans.{Scanned}
 use Rattle.walk.proofs.Walking.{Sound, Stopped, halted, short}
 use Rattle.walk.proofs.Keeping.{left_short}
-use Rattle.record.specs.declared.Cut.{Cut}
-use Rattle.record.specs.declared.Cut.TheVariants.{Record, TooLong, Short}
 use Rattle.record.specs.declared.Ending.{Ending}
 use Rattle.record.specs.declared.Ending.TheVariants.{Waits, Full, TooLong as LongLength}
+use Rattle.record.specs.declared.Cut.{Cut}
+use Rattle.record.specs.declared.Cut.TheVariants.{Record, TooLong, Short}
 use Rattle.record.specs.Records.{record_size, cut_of}
-use Rattle.record.specs.Walks.{record_front, record_walk, ended_as, over_of}
+use Rattle.record.specs.Walks.{Reading, record_front, record_walk, ended_as, over_of}
 use Rattle.record.proofs.Cuts.{no_length, whole_at, long_at, short_at}
-use Rattle.record.proofs.Stays.{long_stays, whole_stays}
+use Rattle.record.proofs.Stays.{long_stays, whole_stays, air_stays, payload_stays}
 
 -- three ways to stand at the front
 whole_stops : {i : ℕ} {why : Ending} → whole i ≡ stops why → ⊥
@@ -87,58 +87,53 @@ front_halts full l why e = by full (cut_of l) refl e
         rw same at so
     by b Short is e = absurd (stops_waits (sym e))
 
-module _ {S : Type 0} (full : S → Bool) (next : S → ℕ → List ℕ → S) (text : S → ℕ → List ℕ → List ℕ) where
-  -- what is made of a whole record stays, whatever follows it
-  pub record Stays : Type 0 where
-    pub next_same : (s : S) (l f : List ℕ) (n : ℕ) → cut_of l ≡ Record n → next s n (l ++ f) ≡ next s n l
-    pub text_same : (s : S) (l f : List ℕ) (n : ℕ) → cut_of l ≡ Record n → text s n (l ++ f) ≡ text s n l
-
-  pub record_sound : Stays → Sound (record_walk full next text)
-  record_sound stays = record {
+module _ {S : Type 0} (reading : Reading S) where
+  pub record_sound : Sound (record_walk reading)
+  record_sound = record {
     some = λ s l n e. omega arith;
-    there = λ s l n e. (whole_at l n (front_whole (full s) l n e).0).there;
+    there = λ s l n e. (whole_at l n (front_whole (reading.full s) l n e).0).there;
     none = λ s. rw (← no_length [] (lit< tt));
     whole_stays = λ s l f n e.
-        let so = front_whole (full s) l n e in
-        ap (λ (c : Cut). record_front (full s) c) (whole_stays l f n so.0) ∙ ap (λ (b : Bool). cond b (stops Full) (whole n)) so.1;
-    stop_stays = λ s l f why e. (front_stops (full s) l f why e).1;
-    next_stays = λ s l f n e. stays.next_same s l f n (front_whole (full s) l n e).0;
-    text_stays = λ s l f n e. stays.text_same s l f n (front_whole (full s) l n e).0;
+        let so = front_whole (reading.full s) l n e in
+        ap (λ (c : Cut). record_front (reading.full s) c) (whole_stays l f n so.0) ∙ ap (λ (b : Bool). cond b (stops Full) (whole n)) so.1;
+    stop_stays = λ s l f why e. (front_stops (reading.full s) l f why e).1;
+    next_stays = λ s l f n e. let so = (front_whole (reading.full s) l n e).0 in rw (air_stays l f n so, payload_stays l f n so);
+    text_stays = λ s l f n e. let so = (front_whole (reading.full s) l n e).0 in rw (air_stays l f n so, payload_stays l f n so);
   }
 
   -- what is left where a walk waits is less than the longest record
-  pub waits_short : (s : S) (l : List ℕ) → (record_walk full next text).cut s l ≡ waits → length l < record_size payload_limit
-  waits_short s l e = short_at l (front_waits (full s) l e)
+  pub waits_short : (s : S) (l : List ℕ) → (record_walk reading).cut s l ≡ waits → length l < record_size payload_limit
+  waits_short s l e = short_at l (front_waits (reading.full s) l e)
 
   -- so where it is not over
-  pub left_of_records : Sound (record_walk full next text) → (growth : ℕ) (start : S) (l before : List ℕ) (at : ℕ) (after : List ℕ) (state : S) (left to : ℕ) (ending : Ending)
-      → Scanned (record_walk full next text) growth start l before at after state left to (ended_as ending) → over_of ending ≡ false → left < record_size payload_limit
-  left_of_records sound growth start l before at after state left to ending so open' =
-      left_short (record_walk full next text) sound start (record_size payload_limit) waits_short l left (ended_as ending) so.left_is so.ended_is (not_over ending open')
+  pub left_of_records : (growth : ℕ) (start : S) (l before : List ℕ) (at : ℕ) (after : List ℕ) (state : S) (left to : ℕ) (ending : Ending)
+      → Scanned (record_walk reading) growth start l before at after state left to (ended_as ending) → over_of ending ≡ false → left < record_size payload_limit
+  left_of_records growth start l before at after state left to ending so open' =
+      left_short (record_walk reading) record_sound start (record_size payload_limit) waits_short l left (ended_as ending) so.left_is so.ended_is (not_over ending open')
 
   -- what closes a walk that stopped is the same, whatever follows: it is cut
-  pub cut_settled : (closing : S → Bool → List ℕ) (s : S) (l f : List ℕ) (why : Ending) → (record_walk full next text).cut s l ≡ stops why
+  pub cut_settled : (closing : S → Bool → List ℕ) (s : S) (l f : List ℕ) (why : Ending) → (record_walk reading).cut s l ≡ stops why
       → closed_by closing s (stopped why) l ≡ closed_by closing s (stopped why) (l ++ f)
   cut_settled closing s l f why e =
-      let some : 0 < length l = (front_stops (full s) l f why e).0 in
+      let some : 0 < length l = (front_stops (reading.full s) l f why e).0 in
       rw (lt-ltb 0 (length l) some, lt-ltb 0 (length (l ++ f)) (omega (arith, length-append l f)))
 
   -- by what stands at the front
   module _ (s : S) (l : List ℕ) where
-    pub at_long : cut_of l ≡ TooLong → Stopped (record_walk full next text) s l (stopped LongLength)
-    at_long e = halted (ap (record_front (full s)) e)
+    pub at_long : cut_of l ≡ TooLong → Stopped (record_walk reading) s l (stopped LongLength)
+    at_long e = halted (ap (record_front (reading.full s)) e)
 
-    pub at_short : cut_of l ≡ Short → Stopped (record_walk full next text) s l (ended_as Waits)
-    at_short e = short (ap (record_front (full s)) e)
+    pub at_short : cut_of l ≡ Short → Stopped (record_walk reading) s l (ended_as Waits)
+    at_short e = short (ap (record_front (reading.full s)) e)
 
     module _ (n : ℕ) (e : cut_of l ≡ Record n) where
-      pub at_full : full s ≡ true → Stopped (record_walk full next text) s l (stopped Full)
-      at_full g = halted (ap (record_front (full s)) e ∙ ap (λ (b : Bool). cond b (stops Full) (whole n)) g)
+      pub at_full : reading.full s ≡ true → Stopped (record_walk reading) s l (stopped Full)
+      at_full g = halted (ap (record_front (reading.full s)) e ∙ ap (λ (b : Bool). cond b (stops Full) (whole n)) g)
 
-      pub at_whole : full s ≡ false → (record_walk full next text).cut s l ≡ whole n
-      at_whole g = ap (record_front (full s)) e ∙ ap (λ (b : Bool). cond b (stops Full) (whole n)) g
+      pub at_whole : reading.full s ≡ false → (record_walk reading).cut s l ≡ whole n
+      at_whole g = ap (record_front (reading.full s)) e ∙ ap (λ (b : Bool). cond b (stops Full) (whole n)) g
 
     -- and back
-    pub halts : (ended : Ended Ending) → Stopped (record_walk full next text) s l ended → Halts (full s) l ended
-    halts ended (halted {why} e) = front_halts (full s) l why e
-    halts ended (short e) = early (front_waits (full s) l e)
+    pub halts : (ended : Ended Ending) → Stopped (record_walk reading) s l ended → Halts (reading.full s) l ended
+    halts ended (halted {why} e) = front_halts (reading.full s) l why e
+    halts ended (short e) = early (front_waits (reading.full s) l e)

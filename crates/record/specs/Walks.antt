@@ -2,11 +2,11 @@
 -- Assumes nothing.
 use Rattle.std.specs.Prelude.{Bool, true, false, cond, List, ℕ}
 use Rattle.walk.specs.Walks.{Front, whole, stops, waits, Walk, Ended, waiting, stopped}
-use Rattle.record.specs.declared.Cut.{Cut}
-use Rattle.record.specs.declared.Cut.TheVariants.{Record, TooLong, Short}
 use Rattle.record.specs.declared.Ending.{Ending}
 use Rattle.record.specs.declared.Ending.TheVariants.{Waits, Full, TooLong as LongLength}
-use Rattle.record.specs.Records.{record_size, cut_of}
+use Rattle.record.specs.declared.Cut.{Cut}
+use Rattle.record.specs.declared.Cut.TheVariants.{Record, TooLong, Short}
+use Rattle.record.specs.Records.{air_in, payload_in, record_size, cut_of}
 
 -- how a walk ended, as the code says it
 abbrev pub ended_as : Ending → Ended Ending
@@ -25,7 +25,16 @@ record_front full (Record n) = cond full (stops Full) (whole n)
 record_front full TooLong = stops LongLength
 record_front full Short = waits
 
-module _ {S : Type 0} where
-  -- whether no record is taken any more, what is kept after the record at the front, which has so many payload bytes, and its text
-  abbrev pub record_walk : (S → Bool) → (S → ℕ → List ℕ → S) → (S → ℕ → List ℕ → List ℕ) → Walk S ℕ Ending
-  record_walk full next text = record { cut = λ s l. record_front (full s) (cut_of l); size = record_size; next = next; text = text }
+-- what a walk makes of records: whether no record is taken any more, what is kept after a record with this header and this payload, and its text
+pub record Reading (S : Type 0) : Type 0 where
+  pub full : S → Bool
+  pub next : S → List ℕ → List ℕ → S
+  pub text : S → List ℕ → List ℕ → List ℕ
+
+abbrev pub record_walk : {S : Type 0} → Reading S → Walk S ℕ Ending
+record_walk reading = record {
+  cut = λ s l. record_front (reading.full s) (cut_of l);
+  size = record_size;
+  next = λ s n l. reading.next s (air_in l) (payload_in n l);
+  text = λ s n l. reading.text s (air_in l) (payload_in n l);
+}

@@ -1,8 +1,9 @@
 // Records cut out of bytes: a length of two bytes, 210 header bytes, and that many payload bytes.
 #![tactic(auto)]
 
-ghost use Rattle.std.specs.Prelude.{◌≡◌, ◌+◌, ◌*◌};
-ghost use Rattle.record.specs.Records.{cut_of};
+ghost use Rattle.std.specs.Prelude.{◌≡◌, ◌+◌, ◌≤◌, length};
+ghost use Rattle.record.specs.Records.{record_size, cut_of};
+ghost use Rattle.record.specs.Parts.{PartsIn};
 ghost use Rattle.record.specs.Walks.{over_of};
 
 use air::{AIR_BITS, LONGEST_PAYLOAD};
@@ -22,6 +23,14 @@ pub enum Cut {
     TooLong,
     // Too few bytes for a record.
     Short,
+}
+
+// A whole record: its header bytes, its payload, and what follows it.
+#[derive(Clone, Copy)]
+pub struct Parts<'a> {
+    pub header: &'a [u8],
+    pub payload: &'a [u8],
+    pub rest: &'a [u8],
 }
 
 // How a walk over records ended.
@@ -46,13 +55,6 @@ pub fn is_over(ending: Ending) -> bool
     }
 }
 
-// Two bytes, the high one first.
-fn length_of(high: u8, low: u8) -> usize
-    ensures { result ≡ high * 256 + low }
-{
-    high as usize * 256 + low as usize
-}
-
 // What stands at the front of some bytes.
 pub fn next_record(rest: &[u8]) -> Cut
     ensures { result ≡ cut_of rest.now }
@@ -60,7 +62,7 @@ pub fn next_record(rest: &[u8]) -> Cut
     if rest.len() < LENGTH_BYTES {
         return Cut::Short;
     }
-    let len = length_of(rest[0], rest[1]);
+    let len = u16::from_be_bytes([rest[0], rest[1]]) as usize;
     if LONGEST_PAYLOAD < len {
         return Cut::TooLong;
     }
@@ -68,4 +70,17 @@ pub fn next_record(rest: &[u8]) -> Cut
         return Cut::Short;
     }
     Cut::Record { len }
+}
+
+// The parts of the record at the front of some bytes, which has `len` payload bytes and is all there.
+pub fn split(bytes: &[u8], len: usize) -> Parts
+    requires { record_size len ≤ length bytes.now }
+    ensures { PartsIn len bytes.now result }
+{
+    let end = PAYLOAD_START + len;
+    Parts {
+        header: &bytes[LENGTH_BYTES..PAYLOAD_START],
+        payload: &bytes[PAYLOAD_START..end],
+        rest: &bytes[end..],
+    }
 }

@@ -1,6 +1,6 @@
 -- A payload of which only a part is at hand, and already that is over 1,023: the refusal of the part is that of the whole, but for the length in 15.
 -- Assumes nothing.
-use mathlib.Core.Path.{◌≡◌, refl}
+use mathlib.Core.Path.{◌≡◌, refl, ◌∙◌}
 use mathlib.Core.Bool.{Bool, true, false}
 use mathlib.Core.List.{List, [], ◌∷◌}
 use Prim.Native.Nat.{ℕ, ◌<◌}
@@ -9,7 +9,7 @@ use lib.ListN.{length}
 use borrow.Author.Tests.{lt-ltb, eq-eqb, ne_eqb}
 use Rattle.base.specs.declared.Edition.{Edition}
 use Rattle.base.specs.declared.Refusal.{Refusal}
-use Rattle.base.specs.declared.Written.TheVariants.{Done, Refused}
+use Rattle.base.specs.Written.{done, refused}
 use Rattle.base.specs.Checks.{check, first, refusal}
 use Rattle.air.specs.Air.{payload_limit}
 use Rattle.header.specs.declared.Fields.{Fields}
@@ -21,15 +21,15 @@ use Rattle.record_writer.specs.LongPayload.{whole_of, whole_answer}
 
 -- by the refusal's number
 module _ (why : Refusal) (size : ℕ) where
-  pub of_length : why.number ≡ 15 → refusal 15 size ≡ whole_of why size
-  of_length e = rw (eq-eqb why.number 15 e)
+  pub of_length : why.number ≡ 15 → (whole : Refusal) → whole ≡ refusal 15 size → whole ≡ whole_of why size
+  of_length e whole is = is ∙ rw (eq-eqb why.number 15 e)
 
   pub of_other : (why.number ≡ 15 → ⊥) → why ≡ whole_of why size
   of_other e = rw (ne_eqb why.number 15 e)
 
 rows : (short over : Bool) (room field part whole : ℕ)
-    → first Done (check short (Refused (refusal 13 room)) ∷ check over (Refused (refusal 14 field)) ∷ check true (Refused (refusal 15 whole)) ∷ [])
-    ≡ whole_answer whole (first Done (check short (Refused (refusal 13 room)) ∷ check over (Refused (refusal 14 field)) ∷ check true (Refused (refusal 15 part)) ∷ []))
+    → first done (check short (refused (refusal 13 room)) ∷ check over (refused (refusal 14 field)) ∷ check true (refused (refusal 15 whole)) ∷ [])
+    ≡ whole_answer whole (first done (check short (refused (refusal 13 room)) ∷ check over (refused (refusal 14 field)) ∷ check true (refused (refusal 15 part)) ∷ []))
 rows true over room field part whole = refl
 rows false true room field part whole = refl
 rows false false room field part whole = refl

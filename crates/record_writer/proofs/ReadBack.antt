@@ -9,8 +9,7 @@ use lib.Seq.{take_at, drop_at}
 use borrow.Author.Rules.{rules}
 use borrow.Author.Tests.{ltb-false}
 use Rattle.base.specs.declared.Edition.{Edition}
-use Rattle.base.specs.declared.Written.{Written}
-use Rattle.base.specs.declared.Written.TheVariants.{Done}
+use Rattle.base.specs.Written.{Written, done}
 use Rattle.base.proofs.First.{first_passes}
 use Rattle.base.proofs.Exactly.{not_done}
 use Rattle.air.specs.Air.{air_bits, payload_limit}
@@ -52,19 +51,19 @@ pub record Recorded (edition : Edition) (f : Fields) (payload after : List ℕ) 
   pub payload_there : payload_in (length payload) after ≡ payload
 
 module _ (edition : Edition) (f : Fields) (payload before : List ℕ) where
-  taken : Done ≡ write_record_of edition f payload (length before) → Writable edition f payload
+  taken : done ≡ write_record_of edition f payload (length before) → Writable edition f payload
   unfolding write_record_of
   taken e =
-      let none = (first_passes Done Done (record_checks edition f payload (length before)) (search (rules, not_done)) (sym e)).1 in
+      let none = (first_passes done done (record_checks edition f payload (length before)) (search (rules, not_done)) (sym e)).1 in
       record {
         ranges = ltb-false (first_over edition (values_of f)) field_count none.1.0;
         short = ltb-false payload_limit (length payload) none.1.1.0;
       }
 
   -- where it was written, all of it is there
-  module _ (answer : Written) (after : List ℕ) (so : RecordWritten edition f payload before answer after) (done : answer ≡ Done) where
+  module _ (answer : Written) (after : List ℕ) (so : RecordWritten edition f payload before answer after) (is_done : answer ≡ done) where
     front : after ≡ record_for edition f payload ++ drop (record_size (length payload)) before
-    front = so.bytes ∙ ap (λ (w : Written). after_record w edition f payload before) done
+    front = so.bytes ∙ ap (λ (w : Written). after_record w edition f payload before) is_done
 
     pub written_fits : record_size (length payload) ≤ length after
     written_fits =
@@ -74,7 +73,7 @@ module _ (edition : Edition) (f : Fields) (payload before : List ℕ) where
     pub written_size : record_size (length payload) ≡ length (take (record_size (length payload)) after)
     written_size = part_size after (record_size (length payload)) written_fits
 
-  pub recorded : (after : List ℕ) → RecordWritten edition f payload before Done after → Recorded edition f payload after
+  pub recorded : (after : List ℕ) → RecordWritten edition f payload before done after → Recorded edition f payload after
   recorded after so =
       let air : List ℕ = air_for edition f payload in
       let rest : List ℕ = drop (record_size (length payload)) before in

@@ -8,7 +8,7 @@ ghost use Rattle.record_writer.specs.LongPayload.{whole_of};
 ghost use Rattle.record_writer.specs.Writing.{room_for, record_from, RecordWritten};
 
 use air::{AIR_BITS, LONGEST_PAYLOAD};
-use base::{Edition, LONG_PAYLOAD, Refusal, SHORT_OUTPUT, Written};
+use base::{Edition, Reason, Refusal, Written};
 use header::Fields;
 use record::PAYLOAD_START;
 
@@ -46,31 +46,22 @@ pub fn write_record(edition: Edition, fields: Fields, payload: &[u8], out: &mut 
 {
     let room = out.len();
     if room < room_for(payload.len()) {
-        return Written::Refused(Refusal {
-            number: SHORT_OUTPUT,
-            place: room,
-        });
+        return Err(Reason::ShortOutput.at(room));
     }
     let mut air = [0u8; AIR_BITS];
-    let answer = header_writer::write_header(edition, fields, payload, &mut air);
-    match answer {
-        Written::Done => {
-            put_record(&air, payload, out);
-            Written::Done
-        }
-        Written::Refused(why) => Written::Refused(why),
-    }
+    header_writer::write_header(edition, fields, payload, &mut air)?;
+    put_record(&air, payload, out);
+    Ok(())
 }
+
+const LONG_PAYLOAD: u8 = Reason::LongPayload as u8;
 
 // The refusal of a payload of this size, by that of a part of it that is itself over 1,023: what a caller tells that cannot hold it all.
 pub fn of_whole(why: Refusal, size: usize) -> Refusal
     ensures { result ≡ whole_of why size }
 {
     if why.number == LONG_PAYLOAD {
-        return Refusal {
-            number: LONG_PAYLOAD,
-            place: size,
-        };
+        return Reason::LongPayload.at(size);
     }
     why
 }

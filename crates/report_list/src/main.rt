@@ -3,10 +3,7 @@
 #![tactic(auto)]
 
 ghost use Rattle.std.specs.Prelude.{◌≡◌, ◌+◌, ◌*◌, ◌<◌, ◌≤◌, length};
-ghost use Rattle.word.specs.Repairs.{syndromes};
-ghost use Rattle.air.specs.Air.{payload_limit};
 ghost use Rattle.scaling.specs.Shown.{row_count};
-ghost use Rattle.record.specs.Records.{record_size};
 ghost use Rattle.page_listing.specs.Listing.{page_rules};
 ghost use Rattle.streams.specs.Turns.{ReadOn};
 ghost use Rattle.report_listing.specs.Rooms.{row_room};
@@ -22,8 +19,8 @@ use report_listing::rows::put_rows;
 use std::env::{Env, FillError};
 use std::io::{ErrorKind, Read, Write};
 use std::{fs, io};
-use streams::{Filled, Next, after_read, is_done, turns_left, write};
-use word::table::TABLE_ROWS;
+use streams::{Filled, Next, after_read, write};
+use word::table::Syndromes;
 
 // The most files: a byte of a buffer for each.
 const MOST_FILES: usize = 65536;
@@ -39,12 +36,11 @@ const INPUT_ROOM: usize = 2;
 
 const ROOM: usize = 65536;
 
-// What the files so far left, how many bytes of the last one are left, and whether it was read to its end.
+// What a file leaves that was read to its end: the pass with it, and how many of its bytes are left.
 #[derive(Clone, Copy)]
 struct Heard {
     pass: Pass,
     left: usize,
-    ended: bool,
 }
 
 // Tells of a file what failed, and why. Where that fails too, nobody is left to be told.
@@ -99,105 +95,10 @@ fn read_from<R: Read>(
     }
 }
 
-// Reads an open file, read by read, and takes its records.
-// The turns are counted down from a number that no run uses up: each but the last reads a byte.
-fn read_file<R: Read>(
-    rt: HostRuntime,
-    table: &[u16; TABLE_ROWS],
-    rules: Rules,
-    start: Pass,
-    name: &[u8],
-    from: &mut R,
-    buf: &mut [u8],
-) -> Heard
-    requires table_value { table.now ≡ syndromes }
-    requires rules_value { rules ≡ page_rules }
-    requires payload_limit_in_bounds { record_size payload_limit ≤ length buf.old }
-{
-    let mut pass = start;
-    let mut kept = 0;
-    let mut ended = false;
-    let mut turns = u64::MAX;
-    while turns > 0 {
-        let filled = read_from(rt, from, name, buf, kept);
-        let end = filled.end;
-        let taken = report_listing::take_piece(table, rules, pass, buf, end);
-        pass = taken.pass;
-        kept = taken.left;
-        let read = filled.next;
-        let ending = taken.ending;
-        let next = after_read(read, is_over(ending));
-        ended = is_done(next);
-        turns = turns_left(turns, next);
-    }
-    Heard {
-        pass,
-        left: kept,
-        ended,
-    }
-}
-
-// What there is after a file that could not be opened, which is told.
-fn unopened(rt: HostRuntime, start: Pass, name: &[u8], why: io::Error) -> Heard {
+// What there is of a file that could not be opened, which is told: nothing.
+fn unopened(rt: HostRuntime, name: &[u8], why: io::Error) -> Option<Heard> {
     tell_failed(rt, name, "open", why);
-    Heard {
-        pass: start,
-        left: 0,
-        ended: false,
-    }
-}
-
-// Opens a file, reads it, and closes it. A name that is no UTF-8 names no file that can be opened.
-fn hear_file(
-    rt: HostRuntime,
-    table: &[u16; TABLE_ROWS],
-    rules: Rules,
-    start: Pass,
-    name: &[u8],
-    buf: &mut [u8],
-) -> Heard
-    requires table_value { table.now ≡ syndromes }
-    requires rules_value { rules ≡ page_rules }
-    requires payload_limit_in_bounds { record_size payload_limit ≤ length buf.old }
-{
-    let path = match str::from_utf8(name) {
-        Ok(path) => path,
-        Err(_) => {
-            return unopened(rt, start, name, io::Error::from(ErrorKind::InvalidFilename));
-        }
-    };
-    let opened = fs::open(&rt, path);
-    match opened {
-        Ok(file) => {
-            let mut file = file;
-            read_file(rt, table, rules, start, name, &mut file, buf)
-        }
-        Err(why) => unopened(rt, start, name, why),
-    }
-}
-
-// Reads standard input; where it was read before, there is nothing more of it, whatever a cut left.
-fn hear_input(
-    rt: HostRuntime,
-    table: &[u16; TABLE_ROWS],
-    rules: Rules,
-    start: Pass,
-    fresh: bool,
-    buf: &mut [u8],
-) -> Heard
-    requires table_value { table.now ≡ syndromes }
-    requires rules_value { rules ≡ page_rules }
-    requires payload_limit_in_bounds { record_size payload_limit ≤ length buf.old }
-{
-    if fresh {
-        let mut input = rt.stdin();
-        return read_file(rt, table, rules, start, b"standard input", &mut input, buf);
-    }
-    Heard {
-        pass: start,
-        left: 0,
-        ended: true,
-    }
+    None
 }
 
 // Whether a word is `-`, standard input, as is no word at all.
@@ -210,51 +111,6 @@ fn names_input(rt: HostRuntime, word: usize) -> bool {
     }
 }
 
-// Reads the file that a word names.
-fn hear_word(
-    rt: HostRuntime,
-    table: &[u16; TABLE_ROWS],
-    rules: Rules,
-    start: Pass,
-    word: usize,
-    buf: &mut [u8],
-) -> Heard
-    requires table_value { table.now ≡ syndromes }
-    requires rules_value { rules ≡ page_rules }
-    requires payload_limit_in_bounds { record_size payload_limit ≤ length buf.old }
-{
-    let mut room = [0u8; NAME_ROOM];
-    match rt.arg(word, &mut room) {
-        Ok(n) => hear_file(rt, table, rules, start, &room[..n], buf),
-        Err(_) => unopened(
-            rt,
-            start,
-            b"a name of more than 4,096 bytes",
-            io::Error::from_raw_os_error(NAME_TOO_LONG),
-        ),
-    }
-}
-
-// Reads what a word names, standard input or a file.
-fn hear_named(
-    rt: HostRuntime,
-    table: &[u16; TABLE_ROWS],
-    rules: Rules,
-    start: Pass,
-    word: usize,
-    fresh: bool,
-    buf: &mut [u8],
-) -> Heard
-    requires table_value { table.now ≡ syndromes }
-    requires rules_value { rules ≡ page_rules }
-    requires payload_limit_in_bounds { record_size payload_limit ≤ length buf.old }
-{
-    if names_input(rt, word) {
-        return hear_input(rt, table, rules, start, fresh, buf);
-    }
-    hear_word(rt, table, rules, start, word, buf)
-}
-
 // Whether standard input was not read yet, after what a word names.
 fn still_fresh(rt: HostRuntime, fresh: bool, word: usize) -> bool {
     if names_input(rt, word) {
@@ -263,39 +119,154 @@ fn still_fresh(rt: HostRuntime, fresh: bool, word: usize) -> bool {
     fresh
 }
 
-// Reads all files in order, up to one that cannot be read.
-fn read_files(
-    rt: HostRuntime,
-    table: &[u16; TABLE_ROWS],
+// What reading the pages needs: the table and the rules.
+#[derive(Drop)]
+struct Reader {
+    table: Syndromes,
     rules: Rules,
-    start: Pass,
-    files: usize,
-    buf: &mut [u8],
-    cuts: &mut [u8],
-) -> Heard
-    requires table_value { table.now ≡ syndromes }
-    requires rules_value { rules ≡ page_rules }
-    requires files_le_most_files { files ≤ most_files }
-    requires payload_limit_in_bounds { record_size payload_limit ≤ length buf.old }
-    requires most_files_in_bounds { most_files ≤ length cuts.old }
-{
-    let mut pass = start;
-    let mut fresh = true;
-    let mut file = 0;
-    while file < files {
-        let heard = hear_named(rt, table, rules, pass, file + 1, fresh, buf);
-        fresh = still_fresh(rt, fresh, file + 1);
-        if !heard.ended {
-            return heard;
+    ghost of_pages: { rules ≡ page_rules },
+}
+
+impl Reader {
+    fn new() -> Reader {
+        let rules = Rules {
+            edition: Edition::Flown,
+            limit: MOST_FLIPS,
+        };
+        Reader {
+            table: Syndromes::new(),
+            rules,
         }
-        pass = heard.pass;
-        report_listing::end_file(cuts, file, heard.left);
-        file += 1;
     }
-    Heard {
-        pass,
-        left: 0,
-        ended: true,
+
+    // Reads an open file, read by read, and takes its records, after the pass so far. None where the file cannot be opened or read, here and below.
+    fn read_file<R: Read>(
+        &self,
+        rt: HostRuntime,
+        start: Pass,
+        name: &[u8],
+        from: &mut R,
+        buf: &mut [u8; ROOM],
+    ) -> Option<Heard> {
+        let mut pass = start;
+        let mut left = 0;
+        for _ in 0..u64::MAX {
+            let filled = read_from(rt, from, name, buf, left);
+            let end = filled.end;
+            let taken = report_listing::take_piece(&self.table, self.rules, pass, buf, end);
+            pass = taken.state;
+            left = taken.left;
+            let read = filled.next;
+            let ending = taken.ending;
+            match after_read(read, is_over(ending)) {
+                Next::More => {}
+                Next::Done => {
+                    return Some(Heard { pass, left });
+                }
+                Next::Failed => {
+                    return None;
+                }
+            }
+        }
+        None
+    }
+
+    // Opens a file, reads it, and closes it. A name that is no UTF-8 names no file that can be opened.
+    fn hear_file(
+        &self,
+        rt: HostRuntime,
+        start: Pass,
+        name: &[u8],
+        buf: &mut [u8; ROOM],
+    ) -> Option<Heard> {
+        let path = match str::from_utf8(name) {
+            Ok(path) => path,
+            Err(_) => {
+                return unopened(rt, name, io::Error::from(ErrorKind::InvalidFilename));
+            }
+        };
+        let opened = fs::open(&rt, path);
+        match opened {
+            Ok(file) => {
+                let mut file = file;
+                self.read_file(rt, start, name, &mut file, buf)
+            }
+            Err(why) => unopened(rt, name, why),
+        }
+    }
+
+    // Reads standard input; where it was read before, there is nothing more of it, whatever a cut left.
+    fn hear_input(
+        &self,
+        rt: HostRuntime,
+        start: Pass,
+        fresh: bool,
+        buf: &mut [u8; ROOM],
+    ) -> Option<Heard> {
+        if fresh {
+            let mut input = rt.stdin();
+            return self.read_file(rt, start, b"standard input", &mut input, buf);
+        }
+        Some(Heard {
+            pass: start,
+            left: 0,
+        })
+    }
+
+    // Reads the file that a word names.
+    fn hear_word(
+        &self,
+        rt: HostRuntime,
+        start: Pass,
+        word: usize,
+        buf: &mut [u8; ROOM],
+    ) -> Option<Heard> {
+        let mut room = [0u8; NAME_ROOM];
+        match rt.arg(word, &mut room) {
+            Ok(n) => self.hear_file(rt, start, &room[..n], buf),
+            Err(_) => unopened(
+                rt,
+                b"a name of more than 4,096 bytes",
+                io::Error::from_raw_os_error(NAME_TOO_LONG),
+            ),
+        }
+    }
+
+    // Reads what a word names, standard input or a file.
+    fn hear_named(
+        &self,
+        rt: HostRuntime,
+        start: Pass,
+        word: usize,
+        fresh: bool,
+        buf: &mut [u8; ROOM],
+    ) -> Option<Heard> {
+        if names_input(rt, word) {
+            return self.hear_input(rt, start, fresh, buf);
+        }
+        self.hear_word(rt, start, word, buf)
+    }
+
+    // Reads all files in order, up to one that cannot be read.
+    fn read_files(
+        &self,
+        rt: HostRuntime,
+        start: Pass,
+        files: usize,
+        buf: &mut [u8; ROOM],
+        cuts: &mut [u8; MOST_FILES],
+    ) -> Option<Pass>
+        requires { files ≤ most_files }
+    {
+        let mut pass = start;
+        let mut fresh = true;
+        for file in 0..files {
+            let heard = self.hear_named(rt, pass, file + 1, fresh, buf)?;
+            fresh = still_fresh(rt, fresh, file + 1);
+            pass = heard.pass;
+            report_listing::end_file(cuts, file, heard.left);
+        }
+        Some(pass)
     }
 }
 
@@ -305,6 +276,7 @@ fn write_cuts(rt: HostRuntime, out: &mut [u8], cuts: &[u8], files: usize) -> boo
     requires row_room_in_bounds { row_count * row_room ≤ length out.old }
 {
     let mut from = 0;
+    // A `while`, no plainer as a `for`: each turn says at which file the next one begins.
     while from < files {
         let put = put_cuts(out, cuts, from, files);
         let to = put.to;
@@ -333,72 +305,23 @@ fn tell(rt: HostRuntime, pass: Pass, files: usize, cuts: &[u8], out: &mut [u8])
     write(rt, &out[..m]);
 }
 
-// Writes the title, and reads all files.
-fn hear_all(
-    rt: HostRuntime,
-    table: &[u16; TABLE_ROWS],
-    rules: Rules,
-    files: usize,
-    buf: &mut [u8],
-    out: &mut [u8],
-    cuts: &mut [u8],
-) -> Heard
-    requires table_value { table.now ≡ syndromes }
-    requires rules_value { rules ≡ page_rules }
-    requires files_le_most_files { files ≤ most_files }
-    requires payload_limit_in_bounds { record_size payload_limit ≤ length buf.old }
-    requires row_room_in_bounds { row_count * row_room ≤ length out.old }
-    requires most_files_in_bounds { most_files ≤ length cuts.old }
-{
-    let opened = report_listing::open(out);
-    let title = opened.to;
-    let start = opened.pass;
-    if !write(rt, &out[..title]) {
-        return Heard {
-            pass: start,
-            left: 0,
-            ended: false,
-        };
-    }
-    read_files(rt, table, rules, start, files, buf, cuts)
-}
-
 // The report over all files. Where one cannot be opened or read, the title alone is written.
-fn list(
-    rt: HostRuntime,
-    table: &[u16; TABLE_ROWS],
-    rules: Rules,
-    files: usize,
-    buf: &mut [u8],
-    out: &mut [u8],
-    cuts: &mut [u8],
-)
-    requires table_value { table.now ≡ syndromes }
-    requires rules_value { rules ≡ page_rules }
-    requires files_le_most_files { files ≤ most_files }
-    requires payload_limit_in_bounds { record_size payload_limit ≤ length buf.old }
-    requires row_room_in_bounds { row_count * row_room ≤ length out.old }
-    requires most_files_in_bounds { most_files ≤ length cuts.old }
-{
-    let heard = hear_all(rt, table, rules, files, buf, out, cuts);
-    if heard.ended {
-        let pass = heard.pass;
-        tell(rt, pass, files, cuts, out);
-    }
-}
-
 fn run(rt: HostRuntime, files: usize)
     requires { files ≤ most_files }
 {
-    let table = word::table::whole();
-    let rules = Rules {
-        edition: Edition::Flown,
-        limit: MOST_FLIPS,
-    };
+    let reader = Reader::new();
     let mut buf = [0u8; ROOM];
     let mut out = [0u8; ROOM];
     let mut cuts = [0u8; MOST_FILES];
-    list(rt, &table, rules, files, &mut buf, &mut out, &mut cuts);
+    let opened = report_listing::open(&mut out);
+    let title = opened.to;
+    if !write(rt, &out[..title]) {
+        return;
+    }
+    let start = opened.state;
+    if let Some(pass) = reader.read_files(rt, start, files, &mut buf, &mut cuts) {
+        tell(rt, pass, files, &cuts, &mut out);
+    }
 }
 
 // How many words there are after the program's name, up to one more than the most files.

@@ -1,9 +1,7 @@
-pub mod Signs
 pub mod Joining
 pub mod PageFitting
 pub mod Taking
 pub mod Sounding
-pub mod Walking
 pub mod Keeping
 pub mod Putting
 pub mod Rowing

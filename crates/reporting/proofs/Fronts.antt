@@ -10,17 +10,17 @@ use lib.ListN.{length, take}
 use lib.Seq.{take-take}
 use borrow.Author.Tests.{ltb-true, ltb-false}
 use Rattle.base.specs.Lists.{AreBits}
+use Rattle.base.specs.Written.{done}
 use Rattle.air.specs.Air.{first_no_bit}
 use Rattle.air.proofs.Bits.{no_bit_le, bits_before}
 use Rattle.text.proofs.Sizes.{part_size}
 use Rattle.marks.specs.declared.State.{State}
 use Rattle.marks.specs.declared.Taken.{Taken}
-use Rattle.marks.specs.declared.Verdict.TheVariants.{Accepted}
 use Rattle.marks.specs.Pieces.{longest_recording, verdict_of, taken_of, moved_on}
 use Rattle.marks.proofs.Verdicts.{bits_accepted, after_accepted, total_after}
-use Rattle.lines.specs.declared.Stop.{Stop}
 use Rattle.reporting.specs.declared.Taking.{Taking}
 use Rattle.reporting.specs.Takings.{fitting_of, front_of, stop_after, why_no_more, taken_bits, taking_of}
+use Rattle.lines.specs.Recordings.{Stop}
 
 -- no more than were read fit, and no more than the recording takes
 fitting_le : (total n : ℕ) → (fitting_of total n ≤ n) × (fitting_of total n ≤ longest_recording - total)
@@ -47,7 +47,7 @@ module _ (total : ℕ) (bits : List ℕ) (fits : ℕ) (is : fits ≡ fitting_of 
     front_bits : AreBits (take n bits)
     front_bits = rw (front, ← (take-take (first_no_bit (take fits bits)) fits bits (omega (arith, front_le, front)))) (bits_before (take fits bits))
 
-    accepted : total < 2 ^ 32 → verdict_of total (take n bits) ≡ Accepted
+    accepted : total < 2 ^ 32 → verdict_of total (take n bits) ≡ done
     accepted fit = bits_accepted total (take n bits) front_bits (omega (arith, front_room fit, front_size))
 
 pub takes_front : (s : State) (bits : List ℕ) (fits n : ℕ) (t : Taken) (stop : Stop) → s.total < 2 ^ 32 → fits ≡ fitting_of s.total (length bits)

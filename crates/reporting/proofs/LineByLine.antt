@@ -4,17 +4,18 @@ use mathlib.Core.Path.{◌≡◌, refl, sym}
 use mathlib.Core.Bool.{true, false, true≢false, false≢true}
 use mathlib.Core.List.{List, [], ◌∷◌, ◌++◌, append-nil}
 use Prim.Native.Nat.{ℕ, ◌+◌, ◌≤◌, zero-le}
+use Rattle.std.specs.Prelude.{Some}
 use native.Mathlib.Nat.{le_refl, zero-add}
 use native.Mathlib.Omega.{arith}
 use lib.ListN.{length, take}
 use lib.Seq.{drop-length}
 use Rattle.base.specs.declared.Edition.{Edition}
+use Rattle.base.specs.Written.{done}
 use Rattle.text.specs.Text.{laid, Put}
 use Rattle.text.proofs.Laid.{put_none}
 use Rattle.marks.specs.declared.Mark.{Mark}
 use Rattle.marks.specs.declared.State.{State}
 use Rattle.marks.specs.declared.Step.{Step}
-use Rattle.marks.specs.declared.Verdict.TheVariants.{Accepted}
 use Rattle.marks.specs.Marked.{window_bits}
 use Rattle.marks.specs.Pieces.{longest_recording, verdict_of, marks_at, step_of}
 use Rattle.marks.specs.Reports.{Got, last as Got-Last, more as got-more}
@@ -55,20 +56,20 @@ module _ (edition : Edition) (s : State) (piece : List ℕ) where
   }
 
   -- the line of the next mark is put
-  one_told : (at : ℕ) (tally : Tally) → total_of tally ≤ s.total + at → (step : Step) → NextMark s piece at step → step.found ≡ true
-      → Reported edition s piece at tally (lines_of edition (step.mark ∷ [])) (lines_of edition (step.mark ∷ []))
-      (record { tally = tally_over edition tally (step.mark ∷ []); to = length (lines_of edition (step.mark ∷ [])); at = step.next; over = false })
-  one_told at tally few step is found =
-      let further = is.some found in
+  one_told : (at : ℕ) (tally : Tally) → total_of tally ≤ s.total + at → (step : Step) (m : Mark) → NextMark s piece at step → step.mark ≡ Some m
+      → Reported edition s piece at tally (lines_of edition (m ∷ [])) (lines_of edition (m ∷ []))
+      (record { tally = tally_over edition tally (m ∷ []); to = length (lines_of edition (m ∷ [])); at = step.next; over = false })
+  one_told at tally few step m is found =
+      let further = is.some m found in
       record {
-        given = step.mark ∷ [];
+        given = m ∷ [];
         split = further.2;
-        text = put_itself (lines_of edition (step.mark ∷ []));
+        text = put_itself (lines_of edition (m ∷ []));
         counted = refl;
         over = λ e. absurd (false≢true e);
         on = λ e. further.0;
         inside = further.1;
-        few = omega (arith, tally_single edition tally step.mark, few, further.0);
+        few = omega (arith, tally_single edition tally m, few, further.0);
       }
 
 -- a text and a tally of a piece from `at` on; no more headers are counted than bits were passed
@@ -85,19 +86,19 @@ module _ (edition : Edition) (s : State) (piece : List ℕ) (long : length s.bit
   got_told : (at : ℕ) (ms : List Mark) → Got s piece at ms → (tally : Tally) → at ≤ length piece → total_of tally ≤ s.total + at → ToldFrom edition s piece at tally
   got_told at ms (Got-Last none) tally inside few =
       record { text = []; after = tally; tells = last (none_told edition s piece at tally inside few ((next at).none none)) refl; few = omega (arith, inside, few) }
-  got_told at ms (got-more {ms = ns} found got) tally inside few =
+  got_told at ms (got-more {m = m} {ms = ns} found got) tally inside few =
       let step : Step = step_of s piece at in
-      let put = one_told edition s piece at tally few step (next at) found in
-      let rest = got_told step.next ns got (tally_over edition tally (step.mark ∷ [])) put.inside put.few in
+      let put = one_told edition s piece at tally few step m (next at) found in
+      let rest = got_told step.next ns got (tally_over edition tally (m ∷ [])) put.inside put.few in
       record {
-        text = take (length (lines_of edition (step.mark ∷ []))) (lines_of edition (step.mark ∷ [])) ++ rest.text;
+        text = take (length (lines_of edition (m ∷ []))) (lines_of edition (m ∷ [])) ++ rest.text;
         after = rest.after;
         tells = more put rest.tells;
         few = rest.few;
       }
 
 -- an accepted piece is told
-pub piece_told : (edition : Edition) (s : State) (piece : List ℕ) (tally : Tally) → length s.bits ≡ window_bits → verdict_of s.total piece ≡ Accepted → total_of tally ≤ s.total
+pub piece_told : (edition : Edition) (s : State) (piece : List ℕ) (tally : Tally) → length s.bits ≡ window_bits → verdict_of s.total piece ≡ done → total_of tally ≤ s.total
     → ToldFrom edition s piece 0 tally
 piece_told edition s piece tally long accepted few =
     let asked = something_got s piece long 0 in

@@ -1,13 +1,13 @@
 -- The lines of marks, one after the other; and the loop that puts them.
 -- Assumes nothing.
 use mathlib.Core.Path.{◌≡◌, refl, sym, ap, ◌∙◌}
-use mathlib.Core.Bool.{true, false, not, true≢false, false≢true}
+use mathlib.Core.Bool.{true, false, true≢false, false≢true}
 use mathlib.Core.List.{List, [], ◌∷◌, ◌++◌, append_assoc, append-nil}
 use Prim.Native.Nat.{ℕ, ◌+◌, ◌-◌, ◌<◌, ◌≤◌, zero-le}
 use native.Mathlib.Nat.{le_refl}
 use native.Mathlib.Omega.{arith}
 use lib.ListN.{length}
-use borrow.Author.Tests.{not-true, not-false}
+use Rattle.std.specs.Prelude.{Some, None}
 use Rattle.base.specs.declared.Edition.{Edition}
 use Rattle.text.specs.Text.{Put}
 use Rattle.text.proofs.Laid.{put_none, put_then}
@@ -58,7 +58,7 @@ tally_one edition tally ms m = tally_append edition tally ms (m ∷ [])
 -- THE NEXT MARK, AND ITS LINE
 pub next_is : (s : State) (piece : List ℕ) (at : ℕ) → length s.bits ≡ window_bits → s.total + length piece ≤ longest_recording → (step : Step) → step ≡ step_of s piece at
     → NextMark s piece at step
-next_is s piece at long room step e = record { some = λ f. finds s piece at long step e f; none = λ f. finds_none s piece at long step e room f }
+next_is s piece at long room step e = record { some = λ m f. finds s piece at long step e m f; none = λ f. finds_none s piece at long step e room f }
 
 pub line_is : (edition : Edition) (m : Mark) (tally : Tally) (out : List ℕ) (to : ℕ) (out' : List ℕ) (next : ℕ) (r : Read) (counted : Tally) → r ≡ mark_read edition m
     → Put out to (report_line edition m.place r) out' next → counted ≡ tally_after tally r.answer → LinePut edition m tally out to out' (record { tally = counted; to = next })
@@ -105,33 +105,29 @@ module _ (edition : Edition) (s : State) (piece : List ℕ) (from : ℕ) (start 
 
   module _ (step : Step) (is : NextMark s piece at step) where
     -- no mark is left
-    pub tell_over : not step.found ≡ true → Reported edition s piece from start out₀ out (record { tally = tally; to = to; at = at; over = true })
+    pub tell_over : step.mark ≡ None → Reported edition s piece from start out₀ out (record { tally = tally; to = to; at = at; over = true })
     tell_over none = record {
       given = so.given;
       split = so.split;
       text = so.text;
       counted = so.counted;
-      over = λ e. is.none (not-true step.found none);
+      over = λ e. is.none none;
       on = λ e. absurd (true≢false e);
       inside = so.inside;
       few = so.few;
     }
 
-    module _ (one_left : not step.found ≡ false) where
-      found : step.found ≡ true
-      found = not-false step.found one_left
-
+    module _ (m : Mark) (found : step.mark ≡ Some m) where
       pub tell_room : total_of tally < longest_recording
-      tell_room = omega (arith, so.few, so.whole, (is.some found).0, (is.some found).1)
+      tell_room = omega (arith, so.few, so.whole, (is.some m found).0, (is.some m found).1)
 
       pub tell_less : length piece - step.next < length piece - at
-      tell_less = omega (arith, (is.some found).0, (is.some found).1)
+      tell_less = omega (arith, (is.some m found).0, (is.some m found).1)
 
-      pub tell_goes_on : (out' : List ℕ) (line : Line) → LinePut edition step.mark tally out to out' line
+      pub tell_goes_on : (out' : List ℕ) (line : Line) → LinePut edition m tally out to out' line
           → Telling edition s piece from start out₀ out' line.tally line.to step.next
       tell_goes_on out' line put =
-          let further = is.some found in
-          let m : Mark = step.mark in
+          let further = is.some m found in
           let one_more : total_of line.tally ≡ total_of tally + 1 = ap total_of put.counted ∙ counts_one tally (mark_read edition m).answer in
           record {
             whole = so.whole;

@@ -15,9 +15,8 @@ use Rattle.marks.proofs.Cuts.{however_cut, no_marks}
 use Rattle.marks.proofs.Runs.{fresh_long, stays_long, marks_more}
 use Rattle.marks.proofs.Verdicts.{total_after}
 use Rattle.lines.specs.declared.Tally.{Tally}
-use Rattle.lines.specs.declared.Stop.{Stop}
 use Rattle.lines.specs.Tallies.{nothing_heard, total_of}
-use Rattle.lines.specs.Recordings.{heading, ending_of}
+use Rattle.lines.specs.Recordings.{Stop, heading, ending_of}
 use Rattle.reporting.specs.Texts.{lines_of, tally_over, search_of}
 use Rattle.reporting.specs.Searches.{Tells, last, more, Searches, over, taken, AllAccepted}
 use Rattle.reporting.proofs.Telling.{lines_append, tally_append, lines_none, tally_none}

@@ -1,6 +1,6 @@
 -- For contracts inside: what opens a search, the next mark, a line, and the lines of some marks of a piece.
 -- Assumes nothing.
-use Rattle.std.specs.Prelude.{◌≡◌, true, false, List, [], ◌∷◌, ◌++◌, ℕ, ◌+◌, ◌<◌, ◌≤◌, length}
+use Rattle.std.specs.Prelude.{◌≡◌, true, false, Some, None, List, [], ◌∷◌, ◌++◌, ℕ, ◌+◌, ◌<◌, ◌≤◌, length}
 use Rattle.base.specs.declared.Edition.{Edition}
 use Rattle.text.specs.Text.{Put}
 use Rattle.marks.specs.declared.Mark.{Mark}
@@ -23,8 +23,8 @@ pub record Opening (before after : List ℕ) (r : Opened) : Type 0 where
 
 -- the next mark from `at` on: the first of those that are left, which ends past `at`; or none is left
 pub record NextMark (s : State) (piece : List ℕ) (at : ℕ) (step : Step) : Type 0 where
-  pub some : step.found ≡ true → (at < step.next) × (step.next ≤ length piece) × (marks_at s piece at ≡ step.mark ∷ marks_at s piece step.next)
-  pub none : step.found ≡ false → marks_at s piece at ≡ []
+  pub some : (m : Mark) → step.mark ≡ Some m → (at < step.next) × (step.next ≤ length piece) × (marks_at s piece at ≡ m ∷ marks_at s piece step.next)
+  pub none : step.mark ≡ None → marks_at s piece at ≡ []
 
 -- a mark's line is put, and its header counted
 pub record LinePut (edition : Edition) (m : Mark) (tally : Tally) (out : List ℕ) (to : ℕ) (out' : List ℕ) (r : Line) : Type 0 where

@@ -2,8 +2,8 @@
 -- Assumes nothing.
 use Rattle.std.specs.Prelude.{◌≡◌, true, List, [], ◌∷◌, ◌++◌, ℕ, take}
 use Rattle.base.specs.declared.Edition.{Edition}
+use Rattle.base.specs.Written.{done}
 use Rattle.marks.specs.declared.State.{State}
-use Rattle.marks.specs.declared.Verdict.TheVariants.{Accepted}
 use Rattle.marks.specs.Pieces.{verdict_of, moved_on}
 use Rattle.lines.specs.declared.Tally.{Tally}
 use Rattle.reporting.specs.declared.Told.{Told}
@@ -20,10 +20,10 @@ pub data Tells (edition : Edition) (s : State) (piece : List ℕ) : ℕ → Tall
 -- the text of accepted pieces, one after the other
 pub data Searches (edition : Edition) : State → Tally → List (List ℕ) → List ℕ → Tally → Type 0 where
   over : {s : State} {tally : Tally} → Searches edition s tally [] [] tally
-  taken : {s : State} {tally between after : Tally} {piece : List ℕ} {pieces : List (List ℕ)} {text rest : List ℕ} → verdict_of s.total piece ≡ Accepted
+  taken : {s : State} {tally between after : Tally} {piece : List ℕ} {pieces : List (List ℕ)} {text rest : List ℕ} → verdict_of s.total piece ≡ done
       → Tells edition s piece 0 tally text between → Searches edition (moved_on s piece) between pieces rest after → Searches edition s tally (piece ∷ pieces) (text ++ rest) after
 
 -- pieces that are accepted one after the other
 abbrev pub AllAccepted : State → List (List ℕ) → Type 0
 AllAccepted s [] = Unit {0}
-AllAccepted s (piece ∷ pieces) = (verdict_of s.total piece ≡ Accepted) × AllAccepted (moved_on s piece) pieces
+AllAccepted s (piece ∷ pieces) = (verdict_of s.total piece ≡ done) × AllAccepted (moved_on s piece) pieces

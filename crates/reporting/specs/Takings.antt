@@ -1,13 +1,12 @@
 -- What is taken of the bits that were read, and why no more is.
 -- Assumes nothing.
-use Rattle.std.specs.Prelude.{cond, List, ℕ, ◌+◌, ◌-◌, ltb, length, take}
+use Rattle.std.specs.Prelude.{None, Some, cond, List, ℕ, ◌+◌, ◌-◌, ltb, length, take}
 use Rattle.base.specs.Checks.{refusal}
 use Rattle.air.specs.Air.{first_no_bit}
 use Rattle.marks.specs.declared.State.{State}
 use Rattle.marks.specs.Pieces.{longest_recording, moved_on}
-use Rattle.lines.specs.declared.Stop.{Stop}
-use Rattle.lines.specs.declared.Stop.TheVariants.{Nowhere, Stopped}
 use Rattle.reporting.specs.declared.Taking.{Taking}
+use Rattle.lines.specs.Recordings.{Stop}
 
 -- how many of n bits fit a recording of so many
 abbrev pub fitting_of : ℕ → ℕ → ℕ
@@ -19,7 +18,7 @@ front_of total bits = first_no_bit (take (fitting_of total (length bits)) bits)
 
 -- "stopped 19 INDEX", the first byte not taken; "stopped 37 4294967295", whatever that byte is
 abbrev pub stop_after : ℕ → ℕ → ℕ → ℕ → Stop
-stop_after total n fits bits = cond (ltb n fits) (Stopped (refusal 19 (total + n))) (cond (ltb fits bits) (Stopped (refusal 37 longest_recording)) Nowhere)
+stop_after total n fits bits = cond (ltb n fits) (Some (refusal 19 (total + n))) (cond (ltb fits bits) (Some (refusal 37 longest_recording)) None)
 
 -- why no more of some bits is taken, after so many
 abbrev pub why_no_more : ℕ → List ℕ → Stop

@@ -6,9 +6,8 @@ use Rattle.marks.specs.declared.Mark.{Mark}
 use Rattle.marks.specs.Marked.{marks_of}
 use Rattle.search.specs.Reports.{mark_read}
 use Rattle.lines.specs.declared.Tally.{Tally}
-use Rattle.lines.specs.declared.Stop.{Stop}
 use Rattle.lines.specs.Tallies.{nothing_heard, tally_after}
-use Rattle.lines.specs.Recordings.{heading, report_line, ending_of}
+use Rattle.lines.specs.Recordings.{Stop, heading, report_line, ending_of}
 
 -- the line of a mark, and of marks one after the other
 abbrev pub mark_line : Edition → Mark → List ℕ

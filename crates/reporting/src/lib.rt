@@ -3,7 +3,6 @@
 #![tactic(auto)]
 
 ghost use Rattle.std.specs.Prelude.{◌≡◌, ◌+◌, ◌*◌, ◌<◌, ◌≤◌, length};
-ghost use Rattle.word.specs.Repairs.{syndromes};
 ghost use Rattle.marks.specs.Pieces.{longest_recording};
 ghost use Rattle.lines.specs.Tallies.{most_counted, total_of};
 ghost use Rattle.lines.specs.Rooms.{line_room};
@@ -12,10 +11,10 @@ ghost use Rattle.text.specs.Text.{Put};
 ghost use Rattle.reporting.specs.Takings.{fitting_of, stop_after, taking_of};
 ghost use Rattle.reporting.specs.Promises.{Opening, NextMark, LinePut, Reported};
 
-use base::{Edition, LONG_RECORDING, NO_BIT_IN_PIECE, Refusal};
+use base::{Edition, Reason};
 use lines::{Stop, Tally};
 use marks::{LONGEST_RECORDING, Mark, State, Step};
-use word::table::TABLE_ROWS;
+use word::table::Syndromes;
 
 // The room that a line may take.
 pub const LINE_ROOM: usize = 168;
@@ -69,18 +68,12 @@ fn stop_after(total: u32, n: usize, fits: usize, bits: usize) -> Stop
     ensures { result ≡ stop_after total n fits bits }
 {
     if n < fits {
-        return Stop::Stopped(Refusal {
-            number: NO_BIT_IN_PIECE,
-            place: total as usize + n,
-        });
+        return Some(Reason::NoBitInPiece.at(total as usize + n));
     }
     if fits < bits {
-        return Stop::Stopped(Refusal {
-            number: LONG_RECORDING,
-            place: LONGEST_RECORDING as usize,
-        });
+        return Some(Reason::LongRecording.at(LONGEST_RECORDING as usize));
     }
-    Stop::Nowhere
+    None
 }
 
 // Takes the bits before the first that cannot be taken.
@@ -125,14 +118,13 @@ fn next_mark(state: State, piece: &[u8], at: usize) -> Step
 
 // Puts the line of a mark, and counts its header.
 fn put_mark(
-    table: &[u16; TABLE_ROWS],
+    table: &Syndromes,
     edition: Edition,
     mark: Mark,
     tally: Tally,
     out: &mut [u8],
     to: usize,
 ) -> Line
-    requires table_value { table.now ≡ syndromes }
     requires tally_bound { total_of tally < most_counted }
     requires line_room_in_bounds { to + line_room ≤ length out.old }
     ensures { LinePut edition mark tally out.old to out.new result }
@@ -148,7 +140,7 @@ fn put_mark(
 
 // Puts the lines of the marks of a piece from a position on, as long as there is room, and counts their headers.
 pub fn put_marks(
-    table: &[u16; TABLE_ROWS],
+    table: &Syndromes,
     edition: Edition,
     state: State,
     piece: &[u8],
@@ -156,7 +148,6 @@ pub fn put_marks(
     start: Tally,
     out: &mut [u8],
 ) -> Told
-    requires table_value { table.now ≡ syndromes }
     requires piece_bound { state.total + length piece.now ≤ longest_recording }
     requires start_bound { total_of start ≤ state.total + from }
     requires from_in_bounds { from ≤ length piece.now }
@@ -166,17 +157,17 @@ pub fn put_marks(
     let mut tally = start;
     let mut to = 0;
     let mut at = from;
+    // A `while`: it counts no index, and ends where the buffer has no room for a line.
     while LINE_ROOM <= out.len() - to {
         let step = next_mark(state, piece, at);
-        if !step.found {
+        let Some(mark) = step.mark else {
             return Told {
                 tally,
                 to,
                 at,
                 over: true,
             };
-        }
-        let mark = step.mark;
+        };
         let line = put_mark(table, edition, mark, tally, out, to);
         tally = line.tally;
         to = line.to;

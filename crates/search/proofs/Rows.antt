@@ -12,6 +12,7 @@ use lib.Dec.{eqb, lit<}
 use lib.ListN.{length, take, drop, length-drop, get_or-eq_default}
 use lib.Seq.{get_or-take, get_or-drop, length-take-le}
 use borrow.Author.Tests.{le-ltb, eq-eqb, eqb-true}
+use Rattle.std.specs.Prelude.{Ok, Err}
 use Rattle.base.specs.declared.Edition.{Edition}
 use Rattle.base.specs.declared.Refusal.{Refusal}
 use Rattle.base.specs.Checks.{Check, Given, here, later}
@@ -20,8 +21,7 @@ use Rattle.base.proofs.Tests.{lt_or_ge, differs_not}
 use Rattle.base.proofs.First.{NoneApplies}
 use Rattle.air.specs.Air.{air_bits, first_no_bit}
 use Rattle.air.proofs.Bits.{no_bit_none}
-use Rattle.header.specs.declared.Answer.{Answer}
-use Rattle.header.specs.declared.Answer.TheVariants.{Accepted, Refused}
+use Rattle.header.specs.Answers.{Answer, refused}
 use Rattle.header_reader.specs.Reading.{Signal, signal, limit_above42, not210_long, no_bit, signal_checks, read_header_of}
 use Rattle.header.specs.Rules.{usual_rules}
 use Rattle.header_reader.proofs.Beside.{read_answer}
@@ -112,21 +112,21 @@ no_member (k ∷ ks) n e h =
 
 -- whether the number of a refusal is one of these
 abbrev Numbered : List ℕ → Bool → Answer → Type 0
-Numbered numbers is (Accepted h flips) = Unit {0}
-Numbered numbers is (Refused why) = among numbers why.number ≡ is
+Numbered numbers is (Ok a) = Unit {0}
+Numbered numbers is (Err why) = among numbers why.number ≡ is
 
 module _ (edition : Edition) (m : Mark) where
   answer_is : (mark_read edition m).answer ≡ read_header_of (signal_of edition m)
   unfolding window_read
   answer_is = read_answer (signal_of edition m) (mark_read edition m) refl
 
-  by_rows : (numbers : List ℕ) (is : Bool) → Each (Numbered numbers is) (signal_checks (signal_of edition m)) → (why : Refusal) → (mark_read edition m).answer ≡ Refused why
+  by_rows : (numbers : List ℕ) (is : Bool) → Each (Numbered numbers is) (signal_checks (signal_of edition m)) → (why : Refusal) → (mark_read edition m).answer ≡ refused why
       → among numbers why.number ≡ is
   by_rows numbers is each why e =
-      given_holds (Numbered numbers is) (Refused why) (signal_checks (signal_of edition m)) each ((read_exactly (signal_of edition m) why).0 (sym answer_is ∙ e))
+      given_holds (Numbered numbers is) (refused why) (signal_checks (signal_of edition m)) each ((read_exactly (signal_of edition m) why).0 (sym answer_is ∙ e))
 
   -- 23 and 24 do not apply, and of 7 and 8 there are no rows: for every mark at all
-  pub never_23_24_7_8 : (why : Refusal) → (mark_read edition m).answer ≡ Refused why → Memᴰ why.number (23 ∷ 24 ∷ 7 ∷ 8 ∷ []) → ⊥
+  pub never_23_24_7_8 : (why : Refusal) → (mark_read edition m).answer ≡ refused why → Memᴰ why.number (23 ∷ 24 ∷ 7 ∷ 8 ∷ []) → ⊥
   never_23_24_7_8 why e =
       no_member (23 ∷ 24 ∷ 7 ∷ 8 ∷ []) why.number
       (by_rows (23 ∷ 24 ∷ 7 ∷ 8 ∷ []) false
@@ -135,7 +135,7 @@ module _ (edition : Edition) (m : Mark) where
 
 -- so the header of a mark that a recording has is refused with 3, 21, 4, 5 and 6 only
 pub refused_3_21_4_5_6 : (edition : Edition) (recording : List ℕ) → AreBits recording → (m : Mark) → Memᴰ m (marks_of recording) → (why : Refusal)
-    → (mark_read edition m).answer ≡ Refused why → Memᴰ why.number (3 ∷ 21 ∷ 4 ∷ 5 ∷ 6 ∷ [])
+    → (mark_read edition m).answer ≡ refused why → Memᴰ why.number (3 ∷ 21 ∷ 4 ∷ 5 ∷ 6 ∷ [])
 refused_3_21_4_5_6 edition recording bits m given why e =
     let none = never_20_1_2 edition recording bits m given in
     member (3 ∷ 21 ∷ 4 ∷ 5 ∷ 6 ∷ []) why.number

@@ -3,26 +3,23 @@
 #![tactic(auto)]
 
 ghost use Rattle.std.specs.Prelude.{◌≡◌};
-ghost use Rattle.word.specs.Repairs.{syndromes};
 ghost use Rattle.search.specs.Reports.{window_read, mark_read};
 
 use base::Edition;
 use header::Read;
 use marks::{MARKER_BITS, Mark, WINDOW_BITS};
-use word::table::TABLE_ROWS;
+use word::table::Syndromes;
 
 // The header answer of a mark's 242 bits.
-fn read_window(table: &[u16; TABLE_ROWS], edition: Edition, window: [u8; WINDOW_BITS]) -> Read
-    requires { table.now ≡ syndromes }
+fn read_window(table: &Syndromes, edition: Edition, window: [u8; WINDOW_BITS]) -> Read
     ensures { result ≡ window_read edition window }
 {
     let rules = header::usual(edition);
     header_reader::read_header_in(table, rules, &window[MARKER_BITS..])
 }
 
-// The header answer of a mark, by a lent copy of the syndrome table: what a caller with many marks copies once.
-pub fn read_mark_in(table: &[u16; TABLE_ROWS], edition: Edition, mark: Mark) -> Read
-    requires { table.now ≡ syndromes }
+// The header answer of a mark, by a lent syndrome table: what a caller with many marks makes once.
+pub fn read_mark_in(table: &Syndromes, edition: Edition, mark: Mark) -> Read
     ensures { result ≡ mark_read edition mark }
 {
     let window = mark.window;
@@ -33,6 +30,6 @@ pub fn read_mark_in(table: &[u16; TABLE_ROWS], edition: Edition, mark: Mark) -> 
 pub fn read_mark(edition: Edition, mark: Mark) -> Read
     ensures { result ≡ mark_read edition mark }
 {
-    let table = word::table::whole();
+    let table = Syndromes::new();
     read_mark_in(&table, edition, mark)
 }

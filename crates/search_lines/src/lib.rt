@@ -7,10 +7,10 @@ ghost use Rattle.lines.specs.Recordings.{heading, report_line, stop_of, last_of,
 ghost use Rattle.lines.specs.Rooms.{line_room};
 
 use base::Edition;
-use header::{Answer, Read};
+use header::Read;
 use lines::{Stop, Tally, put_accepted, put_refused};
 
-// Puts the first line.
+// Puts the first line. (Each listing has a text and a room of its own: one function of both would be `put_text` again.)
 pub fn put_heading(out: &mut [u8]) -> usize
     requires { line_room ≤ length out.old }
     ensures put { Put out.old 0 heading out.new result }
@@ -28,19 +28,19 @@ pub fn put_report(out: &mut [u8], at: usize, edition: Edition, place: u64, read:
     let answer = read.answer;
     let patterns = read.patterns;
     match answer {
-        Answer::Accepted { header, flips } => put_accepted(
+        Ok(accepted) => put_accepted(
             out,
             at,
             edition,
             place,
-            header.fields.src_id,
-            header.fields.fr_cnt_tx,
-            flips,
+            accepted.header.fields.src_id,
+            accepted.header.fields.fr_cnt_tx,
+            accepted.flips,
             air::worst(patterns),
             b" length ",
-            header.pdu_length as usize,
+            accepted.header.pdu_length as usize,
         ),
-        Answer::Refused(why) => put_refused(out, at, place, why),
+        Err(why) => put_refused(out, at, place, why),
     }
 }
 
@@ -51,8 +51,8 @@ fn put_stop(out: &mut [u8], at: usize, stop: Stop) -> usize
     ensures upper_bound { result ≤ at + line_room }
 {
     match stop {
-        Stop::Nowhere => at,
-        Stop::Stopped(why) => {
+        None => at,
+        Some(why) => {
             text::put_form(
                 out,
                 at,

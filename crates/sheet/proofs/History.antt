@@ -9,13 +9,13 @@ use lib.ListN.{length, take, replicate}
 use lib.Seq.{take-append-le}
 use Rattle.base.specs.declared.Edition.{Edition}
 use Rattle.base.specs.Checks.{refusal}
-use Rattle.header.specs.declared.Answer.TheVariants.{Refused}
+use Rattle.header.specs.Answers.{refused}
 use Rattle.frame.specs.Frames.{frame_of, Frame}
 use Rattle.source.specs.declared.Lane.{Lane}
 use Rattle.source.specs.Lanes.{Role, as_caller, as_responder}
 use Rattle.source.specs.Counts.{slot_of}
 use Rattle.source.specs.Records.{replay_from, replay_of}
-use Rattle.sheet.specs.declared.Sheet.{Sheet}
+use Rattle.sheet.specs.Sheets.{Sheet}
 use Rattle.sheet.specs.Sheets.{new_sheet, source_at, lane_at, refusals_at, accepted_of, refused_of, full_sheet, same_edition, edition_of, taken_of, offer_of}
 use Rattle.sheet.specs.Histories.{sheet_of, count_all, of_edition, taken_from, own_of, refused_with, Unfilled}
 use Rattle.source.proofs.Counts.{HasSlot}
@@ -76,12 +76,12 @@ module _ (own : Edition) (history : List Frame) where
 
   -- and a frame of the other edition is refused with 22, "sheet unchanged"
   pub other_before : length (of_edition own history) < full_sheet → (f : Frame) → same_edition (edition_of f) own ≡ false
-      → offer_of own (sheet_of own history) f ≡ record { read = record { answer = Refused (refusal 22 0); patterns = replicate word_count 0 }; sheet = sheet_of own history }
+      → offer_of own (sheet_of own history) f ≡ record { read = record { answer = refused (refusal 22 0); patterns = replicate word_count 0 }; sheet = sheet_of own history }
   other_before few f other = other_refuses own (sheet_of own history) f (omega (arith, (history_grown own history).heard_is)) other
 
   module _ (many : full_sheet ≤ length (of_edition own history)) where
     -- and from then on every frame is refused with 17
-    pub refused_after : (f : Frame) → offer_of own (sheet_of own history) f ≡ record { read = record { answer = Refused (refusal 17 full_sheet); patterns = replicate word_count 0 }; sheet = sheet_of own history }
+    pub refused_after : (f : Frame) → offer_of own (sheet_of own history) f ≡ record { read = record { answer = refused (refusal 17 full_sheet); patterns = replicate word_count 0 }; sheet = sheet_of own history }
     refused_after f = full_refuses own (sheet_of own history) f (omega (arith, (history_grown own history).heard_is))
 
     -- and the sheet is the same after whatever follows

@@ -5,8 +5,8 @@ use mathlib.Core.Path.{◌≡◌, refl, sym, ap, ◌∙◌}
 use mathlib.Core.Bool.{Bool, true, false, cond}
 use mathlib.Core.List.{List, [], ◌∷◌, ◌++◌}
 use Prim.Native.Nat.{ℕ}
-use Rattle.header.specs.declared.Answer.{Answer}
-use Rattle.header.specs.declared.Answer.TheVariants.{Accepted, Refused}
+use Rattle.std.specs.Prelude.{Ok, Err}
+use Rattle.header.specs.Answers.{Answer}
 use Rattle.frame.specs.Frames.{Frame, frame_of}
 use Rattle.base.specs.declared.Edition.{Edition}
 use Rattle.source.specs.Lanes.{Role, of_lane, own_in}
@@ -18,8 +18,8 @@ use Rattle.sheet.proofs.History.{own_lane}
 module _ (k : ℕ) (role : Role) where
   -- a lane hears nothing of any other frame
   not_own : (a : Answer) → of_lane k role a ≡ false → own_in k role a ≡ []
-  not_own (Accepted h flips) e = rw e
-  not_own (Refused why) e = refl
+  not_own (Ok a) e = rw e
+  not_own (Err why) e = refl
 
   -- so leaving those out changes nothing
   own_kept : (fs : List Frame) → own_of k role fs ≡ own_of k role (lane_frames k role fs)

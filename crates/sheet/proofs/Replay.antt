@@ -10,7 +10,7 @@ use Rattle.source.specs.declared.Lane.{Lane}
 use Rattle.source.specs.Records.{next_of, replay_from}
 use Rattle.source.specs.Lanes.{Role, own_in}
 use Rattle.source.specs.Counts.{slot_of}
-use Rattle.sheet.specs.declared.Sheet.{Sheet}
+use Rattle.sheet.specs.Sheets.{Sheet}
 use Rattle.sheet.specs.Sheets.{lane_at, refusals_at, counted_of, full_sheet}
 use Rattle.sheet.specs.Histories.{count_all, own_of, refused_with}
 use Rattle.source.proofs.Counts.{HasSlot}

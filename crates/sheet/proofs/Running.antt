@@ -12,8 +12,8 @@ use Rattle.source.specs.declared.Source.{Source}
 use Rattle.source.specs.Records.{silent_lane}
 use Rattle.source.specs.Lanes.{Role, as_caller, as_responder, silent, frames_of}
 use Rattle.source.specs.Counts.{refusal_counts}
-use Rattle.sheet.specs.declared.Sheet.{Sheet}
-use Rattle.sheet.specs.declared.Offered.{Offered}
+use Rattle.sheet.specs.Sheets.{Sheet}
+use Rattle.sheet.specs.Sheets.{Offered}
 use Rattle.sheet.specs.Sheets.{records_of, new_sheet, source_at, lane_at, refusals_at, counted_of, accepted_of, refused_of, heard_of, full_sheet, same_edition, edition_of}
 use Rattle.sheet.specs.Histories.{run_of, sheet_of, count_all, of_edition, taken_from}
 use Rattle.sheet.proofs.Offering.{frame_countable, same_is, same_self, full_refuses, room_takes, other_stays}

@@ -8,11 +8,10 @@ use lib.ListN.{length}
 use Rattle.base.specs.declared.Edition.{Edition}
 use Rattle.base.specs.declared.Refusal.{Refusal}
 use Rattle.header.specs.declared.Header.{Header}
-use Rattle.header.specs.declared.Answer.{Answer}
-use Rattle.header.specs.declared.Answer.TheVariants.{Accepted, Refused}
+use Rattle.header.specs.Answers.{Answer, accepted, refused}
 use Rattle.frame.specs.Frames.{Frame, frame_of}
-use Rattle.sheet.specs.declared.Sheet.{Sheet}
-use Rattle.sheet.specs.declared.Offered.{Offered}
+use Rattle.sheet.specs.Sheets.{Sheet}
+use Rattle.sheet.specs.Sheets.{Offered}
 use Rattle.sheet.specs.Sheets.{new_sheet, accept_of, counted_of, accepted_of, refused_of, heard_of, full_sheet, edition_of, offer_of}
 use Rattle.sheet.specs.Histories.{run_of, sheet_of, of_edition}
 use Rattle.sheet.proofs.Offering.{frame_countable, answers_frame, offered_answer}
@@ -56,14 +55,14 @@ module _ (own : Edition) (history : List Frame) (all : AllOwn own history) (room
       ∙ counted_heard own (min full_sheet (length (of_edition own history))) (sheet_of own history) so few (frame_of f) (frame_countable own f mine)
       ∙ ap (λ (n : ℕ). n + 1) (sym so.heard_is)
 
-  module _ (h : Header) (flips : ℕ) (is : frame_of f ≡ Accepted h flips) where
+  module _ (h : Header) (flips : ℕ) (is : frame_of f ≡ accepted h flips) where
     pub accepted_keeps_refused : refused_of (sheet_of own (history ++ f ∷ [])) ≡ refused_of (sheet_of own history)
-    accepted_keeps_refused = ap refused_of (counts (Accepted h flips) is) ∙ accept_keeps (sheet_of own history) h flips
+    accepted_keeps_refused = ap refused_of (counts (accepted h flips) is) ∙ accept_keeps (sheet_of own history) h flips
 
     pub accepted_adds_one : accepted_of own (sheet_of own (history ++ f ∷ [])) ≡ accepted_of own (sheet_of own history) + 1
     accepted_adds_one = omega (arith, one_more, accepted_keeps_refused)
 
-  module _ (why : Refusal) (is : frame_of f ≡ Refused why) where
+  module _ (why : Refusal) (is : frame_of f ≡ refused why) where
     pub refused_keeps_accepted : accepted_of own (sheet_of own (history ++ f ∷ [])) ≡ accepted_of own (sheet_of own history)
     refused_keeps_accepted =
         ap (accepted_of own) (run_one_more own history (new_sheet own) f)

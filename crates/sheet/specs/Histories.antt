@@ -1,14 +1,13 @@
 -- Histories: the frames that a sheet was offered, the first first, and what is counted from them.
 -- Assumes nothing.
-use Rattle.std.specs.Prelude.{cond, List, [], ◌∷◌, ◌++◌, ℕ, ◌+◌, ◌<◌, eqb, take}
+use Rattle.std.specs.Prelude.{cond, List, [], ◌∷◌, ◌++◌, ℕ, ◌+◌, ◌<◌, eqb, take, Ok, Err}
 use Rattle.base.specs.declared.Edition.{Edition}
-use Rattle.header.specs.declared.Answer.{Answer}
-use Rattle.header.specs.declared.Answer.TheVariants.{Accepted, Refused}
+use Rattle.header.specs.Answers.{Answer}
 use Rattle.frame.specs.Frames.{Frame, frame_of}
 use Rattle.source.specs.Records.{count_limit, Own}
 use Rattle.source.specs.Lanes.{Role, of_lane, own_in}
 use Rattle.source.specs.Counts.{refusal_counts}
-use Rattle.sheet.specs.declared.Sheet.{Sheet}
+use Rattle.sheet.specs.Sheets.{Sheet}
 use Rattle.sheet.specs.Sheets.{new_sheet, lane_at, refusals_at, counted_of, full_sheet, same_edition, edition_of, offer_of}
 
 -- a sheet after some frames, and the sheet grown from a new one
@@ -46,8 +45,8 @@ own_of k role (f ∷ fs) = own_in k role (frame_of f) ++ own_of k role fs
 
 -- how many frames are refused with a number
 abbrev pub refused_in : ℕ → Answer → ℕ
-refused_in number (Accepted h flips) = 0
-refused_in number (Refused why) = cond (eqb why.number number) 1 0
+refused_in number (Ok a) = 0
+refused_in number (Err why) = cond (eqb why.number number) 1 0
 
 abbrev pub refused_with : ℕ → List Frame → ℕ
 refused_with number [] = 0

@@ -8,7 +8,7 @@ use Rattle.base.specs.declared.Edition.{Edition}
 use Rattle.lines.specs.declared.Tally.{Tally}
 use Rattle.lines.specs.Lines.{closing_of}
 use Rattle.source.specs.Lanes.{source_in}
-use Rattle.sheet.specs.declared.Sheet.{Sheet}
+use Rattle.sheet.specs.Sheets.{Sheet}
 use Rattle.sheet.specs.Sheets.{records_of, source_at}
 use Rattle.sheet_lines.specs.Lines.{join_to, heard_line, refusal_lines, lines_of_sheet, totals_of}
 

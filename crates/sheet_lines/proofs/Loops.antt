@@ -11,7 +11,7 @@ use Rattle.base.specs.declared.Edition.TheVariants.{Flown, Corrected}
 use Rattle.source.specs.Lanes.{silent, source_in}
 use Rattle.source.specs.Counts.{counted_at, refusal_counts}
 use Rattle.sheet.specs.Sheets.{records_of}
-use Rattle.wide_sheet.specs.declared.WideSheet.{WideSheet}
+use Rattle.wide_sheet.specs.Wide.{WideSheet}
 use Rattle.sheet_lines.specs.Lines.{heard_line, given_line, source_lines, refusal_lines}
 use Rattle.sheet_lines.specs.Rooms.{source_room, refusal_room, most_records}
 use Rattle.sheet_lines.proofs.Joining.{Joining, join_starts, join_room, join_goes_on, join_ends, join_short}

@@ -18,7 +18,7 @@ use Rattle.lines.specs.Lines.{letter_of, closing_of}
 use Rattle.source.specs.declared.Lane.{Lane}
 use Rattle.source.specs.declared.Source.{Source}
 use Rattle.source.specs.declared.Display.{Display}
-use Rattle.sheet.specs.declared.Sheet.{Sheet}
+use Rattle.sheet.specs.Sheets.{Sheet}
 use Rattle.source.specs.Lanes.{frames_of, summed_of}
 use Rattle.sheet_lines.specs.Rooms.{source_room, refusal_room}
 use Rattle.sheet_lines.specs.Lines.{totals_title, lane_form, lane_text, source_opening, source_line, heard_line, refused_frames, given_line, source_lines, refusal_lines, lines_of_sheet, totals_of}

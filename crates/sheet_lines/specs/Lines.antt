@@ -10,7 +10,7 @@ use Rattle.lines.specs.declared.Tally.{Tally}
 use Rattle.lines.specs.Lines.{letter_of, closing_of}
 use Rattle.source.specs.declared.Lane.{Lane}
 use Rattle.source.specs.declared.Source.{Source}
-use Rattle.sheet.specs.declared.Sheet.{Sheet}
+use Rattle.sheet.specs.Sheets.{Sheet}
 use Rattle.source.specs.Lanes.{source_in, frames_of, repaired_of}
 use Rattle.source.specs.Counts.{counted_at, refusal_counts}
 use Rattle.sheet.specs.Sheets.{records_of}

@@ -15,7 +15,7 @@ use lines::Tally;
 use source::{Lane, REFUSAL_COUNTS, Source};
 use wide_sheet::WideSheet;
 
-// Puts the first line.
+// Puts the first line. (Each listing has a text and a room of its own: one function of both would be `put_text` again.)
 pub fn put_title(out: &mut [u8]) -> usize
     requires { line_room ≤ length out.old }
     ensures put { Put out.old 0 totals_title out.new result }
@@ -148,11 +148,9 @@ fn put_sources(out: &mut [u8], at: usize, edition: Edition, sheet: WideSheet) ->
 {
     let records = records_of(edition);
     let mut to = at;
-    let mut k = 0;
-    while k < records {
+    for k in 0..records {
         let source = sheet.sources[k];
         to = put_heard(out, to, edition, k as u8, source);
-        k += 1;
     }
     to
 }
@@ -164,11 +162,9 @@ fn put_refusals(out: &mut [u8], at: usize, counts: [u32; REFUSAL_COUNTS]) -> usi
     ensures upper_bound { result ≤ at + refusal_counts * refusal_room }
 {
     let mut to = at;
-    let mut k = 0;
-    while k < REFUSAL_COUNTS {
+    for k in 0..REFUSAL_COUNTS {
         let number = source::counted_number(k);
         to = put_given(out, to, number, counts[k]);
-        k += 1;
     }
     to
 }

@@ -9,12 +9,12 @@ use lib.Dec.{eqb}
 use lib.ListN.{length, set, take, length-set, length-replicate}
 use lib.Seq.{get_or-set_same, get_or-set_other}
 use borrow.Author.Tests.{eqb-true, eqb-false}
+use Rattle.std.specs.Prelude.{Ok, Err}
 use Rattle.base.proofs.Tabulate.{read_replicated}
 use Rattle.base.specs.declared.Edition.{Edition}
 use Rattle.base.specs.declared.Edition.TheVariants.{Flown, Corrected}
 use Rattle.header.specs.declared.Rules.{Rules}
-use Rattle.header.specs.declared.Answer.{Answer}
-use Rattle.header.specs.declared.Answer.TheVariants.{Accepted, Refused}
+use Rattle.header.specs.Answers.{Answer}
 use Rattle.frame.specs.Frames.{Frame, frame_of}
 use Rattle.record.specs.declared.Cut.{Cut}
 use Rattle.record.specs.declared.Cut.TheVariants.{Record, TooLong, Short}
@@ -22,7 +22,7 @@ use Rattle.record.specs.Records.{cut_of}
 use Rattle.source.specs.declared.Source.{Source}
 use Rattle.source.specs.Lanes.{silent, source_in, record_of, hear_of}
 use Rattle.source.specs.Counts.{counts_after}
-use Rattle.sheet.specs.declared.Sheet.{Sheet}
+use Rattle.sheet.specs.Sheets.{Sheet}
 use Rattle.sheet.specs.Sheets.{records_of, new_sheet, source_at, accept_of, counted_of, full_sheet}
 use Rattle.sheet.specs.Histories.{sheet_of, count_all}
 use Rattle.sheet.proofs.Offering.{Countable, recorded, frame_countable}
@@ -66,11 +66,11 @@ set_alike xs ys i x a b same k = by (eqb k i) refl
 module _ (own : Edition) where
   one_alike : (s t : Sheet) → Alike own s t → (a : Answer) → Countable own a → Alike own (counted_of s a) (counted_of t a)
   unfolding accept_of
-  one_alike s t so (Refused why) known = record { sources = so.sources; counts = ap (λ (l : List ℕ). counts_after l why.number) so.counts; first_long = so.first_long; second_long = so.second_long }
-  one_alike s t so (Accepted h flips) (recorded known few) =
-      let i = record_of h in
-      let x : Source = hear_of (source_at s i) h flips in
-      let same : hear_of (source_at t i) h flips ≡ x = ap (λ (r : Source). hear_of r h flips) (sym (so.sources i)) in
+  one_alike s t so (Err why) known = record { sources = so.sources; counts = ap (λ (l : List ℕ). counts_after l why.number) so.counts; first_long = so.first_long; second_long = so.second_long }
+  one_alike s t so (Ok a) (recorded known few) =
+      let i = record_of a.header in
+      let x : Source = hear_of (source_at s i) a.header a.flips in
+      let same : hear_of (source_at t i) a.header a.flips ≡ x = ap (λ (r : Source). hear_of r a.header a.flips) (sym (so.sources i)) in
       record {
         sources = λ k. rw same (set_alike s.sources t.sources i x (omega (arith, so.first_long)) (omega (arith, so.second_long)) so.sources k);
         counts = so.counts;

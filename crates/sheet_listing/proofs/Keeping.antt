@@ -13,10 +13,10 @@ use Rattle.walk.proofs.Keeping as keeping
 use Rattle.record.specs.Records.{record_size}
 use Rattle.record.specs.Walks.{ended_as, over_of}
 use Rattle.record.proofs.Walking.{waits_short, not_over}
-use Rattle.wide_sheet.specs.declared.WideSheet.{WideSheet}
+use Rattle.wide_sheet.specs.Wide.{WideSheet}
 use Rattle.lines.specs.declared.Tally.{Tally}
 use Rattle.sheet_listing.specs.declared.Counted.{Counted}
-use Rattle.sheet_listing.specs.Pieces.{totals_full, totals_in, sheet_walk}
+use Rattle.sheet_listing.specs.Pieces.{sheet_reading, sheet_walk}
 use Rattle.sheet_listing.specs.Promises.{held_totals, Walked, Turns}
 use Rattle.sheet_listing.proofs.TakenFrames.{sheet_sound}
 
@@ -24,9 +24,6 @@ module _ (rules : Rules) (start : WideSheet) (tally : Tally) (buf : List ℕ) (e
   -- what is left is within the piece
   pub left_inside : r.left ≤ end
   left_inside = keeping.rest_inside (sheet_walk rules) (sheet_sound rules) (held_totals start tally) buf end inside r.left so.left_is
-
-  pub left_room : end - r.left + r.left ≤ length buf
-  left_room = omega (arith, left_inside)
 
 -- and then stands at the buffer's front
 pub rest_kept : (rules : Rules) (start : WideSheet) (tally : Tally) (buf : List ℕ) (end : ℕ) → end ≤ length buf → (buf' : List ℕ) (r : Counted) → Turns rules start tally buf end buf' r
@@ -37,5 +34,5 @@ rest_kept rules start tally buf end inside buf' r turned =
 -- where the sheet is not over, what is left is shorter than the longest record
 pub left_short : (rules : Rules) (start : WideSheet) (tally : Tally) (l : List ℕ) (r : Counted) → Walked rules start tally l r → over_of r.ending ≡ false → r.left < record_size payload_limit
 left_short rules start tally l r so e =
-    keeping.left_short (sheet_walk rules) (sheet_sound rules) (held_totals start tally) (record_size payload_limit) (waits_short totals_full (totals_in rules) (λ s n m. [])) l r.left (ended_as r.ending) so.left_is
+    keeping.left_short (sheet_walk rules) (sheet_sound rules) (held_totals start tally) (record_size payload_limit) (waits_short (sheet_reading rules)) l r.left (ended_as r.ending) so.left_is
     so.ended_is (not_over r.ending e)

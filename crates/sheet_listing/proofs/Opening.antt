@@ -3,7 +3,7 @@
 use mathlib.Core.Path.{◌≡◌, ap}
 use Rattle.base.specs.declared.Edition.TheVariants.{Corrected}
 use Rattle.sheet.specs.Sheets.{new_sheet}
-use Rattle.wide_sheet.specs.declared.WideSheet.{WideSheet}
+use Rattle.wide_sheet.specs.Wide.{WideSheet}
 use Rattle.wide_sheet.specs.Wide.{held, widened}
 use Rattle.sheet_listing.specs.Pieces.{blank_sheet}
 

@@ -20,7 +20,7 @@ use Rattle.listing.proofs.SheetListing.{sheet_tally}
 use Rattle.sheet_lines.specs.Lines.{totals_title, totals_of}
 use Rattle.sheet_lines.proofs.Alike.{totals_alike}
 use Rattle.sheet_listing.specs.Sheets.{grown_from, sheet_text_of}
-use Rattle.sheet_listing.specs.Pieces.{blank_sheet, nothing_counted, totals_full, totals_in, sheet_walk, totals_text, streamed_sheet}
+use Rattle.sheet_listing.specs.Pieces.{blank_sheet, nothing_counted, sheet_reading, sheet_walk, totals_text, streamed_sheet}
 use Rattle.sheet_listing.proofs.TakenFrames.{sheet_sound, taken_in, AsListed, as_listed}
 use Rattle.sheet_listing.proofs.Grown.{grown_alike}
 
@@ -45,5 +45,5 @@ module _ (rules : Rules) where
   unfolding streamed_sheet
   whole_sheet pieces =
       ap (λ (c : Closed (Unit {0})). totals_title ++ c.text)
-      (fed_whole (sheet_walk rules) (sheet_sound rules) (closed_by (totals_text rules)) (cut_settled totals_full (totals_in rules) (λ s n l. []) (totals_text rules)) nothing_counted pieces)
+      (fed_whole (sheet_walk rules) (sheet_sound rules) (closed_by (totals_text rules)) (cut_settled (sheet_reading rules) (totals_text rules)) nothing_counted pieces)
       ∙ told_whole (flatten pieces)

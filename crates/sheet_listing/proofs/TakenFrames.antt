@@ -7,16 +7,15 @@ use Prim.Native.Nat.{ℕ, zero, suc, ◌+◌, ◌-◌, ◌<◌}
 use native.Mathlib.Omega.{arith}
 use lib.ListN.{take, drop}
 use borrow.Author.Tests.{leb-true, leb-false}
+use Rattle.std.specs.Prelude.{Ok, Err}
 use Rattle.header.specs.declared.Rules.{Rules}
-use Rattle.header.specs.declared.Answer.{Answer}
-use Rattle.header.specs.declared.Answer.TheVariants.{Accepted, Refused}
+use Rattle.header.specs.Answers.{Answer}
 use Rattle.frame.specs.Frames.{Frame, frame_of}
 use Rattle.walk.specs.Walks.{whole, Ended, walk_of}
 use Rattle.walk.proofs.Walking.{Sound, Stopped, halted, short, walk_stops, walk_takes, by_items}
-use Rattle.record.specs.declared.Cut.TheVariants.{Record}
 use Rattle.record.specs.declared.Ending.{Ending}
-use Rattle.record.specs.Records.{record_size, cut_of}
-use Rattle.record.proofs.Stays.{air_stays, payload_stays}
+use Rattle.record.specs.declared.Cut.TheVariants.{Record}
+use Rattle.record.specs.Records.{air_in, payload_in, record_size, cut_of}
 use Rattle.record.proofs.Walking.{record_sound, front_whole, Halts, filled, long, early, halts}
 use Rattle.sheet.specs.Sheets.{full_sheet}
 use Rattle.sheet.specs.Histories.{count_all}
@@ -27,7 +26,7 @@ use Rattle.listing.specs.Listing.{full_at, tally_in, list_walk}
 use Rattle.listing.specs.Offers.{frames_in}
 use Rattle.listing.proofs.Streaming.{list_sound}
 use Rattle.listing.proofs.Frames.{frames_more, frames_long, frames_short}
-use Rattle.sheet_listing.specs.Pieces.{Totals, totals_full, totals_in, sheet_walk}
+use Rattle.sheet_listing.specs.Pieces.{Totals, totals_full, totals_in, sheet_reading, sheet_walk}
 
 take_none : (k : ℕ) → ◌≡◌ {A = List Frame} (take k []) []
 take_none zero = refl
@@ -35,27 +34,24 @@ take_none (suc k) = refl
 
 -- an answer adds one to the total
 pub total_after : (tally : Tally) (a : Answer) → total_of (tally_after tally a) ≡ total_of tally + 1
-total_after tally (Accepted h flips) = omega arith
-total_after tally (Refused why) = omega arith
+total_after tally (Ok a) = omega arith
+total_after tally (Err why) = omega arith
 
 module _ (rules : Rules) where
   pub sheet_sound : Sound (sheet_walk rules)
-  sheet_sound = record_sound totals_full (totals_in rules) (λ s n l. []) (record {
-    next_same = λ s l f n e. rw (air_stays l f n e, payload_stays l f n e);
-    text_same = λ s l f n e. refl;
-  })
+  sheet_sound = record_sound (sheet_reading rules)
 
   -- the frames of some bytes that are counted after so many: as many as a sheet still takes
   unfoldable pub taken_in : Tally → List ℕ → List Frame
   taken_in tally l = take (full_sheet - total_of tally) (frames_in rules l)
 
   taken_more : (tally : Tally) (l : List ℕ) (n : ℕ) → cut_of l ≡ Record n → full_at tally ≡ false
-      → taken_in tally l ≡ frame_in rules n l ∷ taken_in (tally_in rules tally n l) (drop (record_size n) l)
+      → taken_in tally l ≡ frame_in rules n l ∷ taken_in (tally_in rules tally (air_in l) (payload_in n l)) (drop (record_size n) l)
   unfolding taken_in
   taken_more tally l n e g =
       let room : total_of tally < full_sheet = leb-false full_sheet (total_of tally) g in
-      let next : total_of (tally_in rules tally n l) ≡ total_of tally + 1 = total_after tally (frame_of (frame_in rules n l)) in
-      let one : full_sheet - total_of tally ≡ suc (full_sheet - total_of (tally_in rules tally n l)) = omega arith in
+      let next : total_of (tally_in rules tally (air_in l) (payload_in n l)) ≡ total_of tally + 1 = total_after tally (frame_of (frame_in rules n l)) in
+      let one : full_sheet - total_of tally ≡ suc (full_sheet - total_of (tally_in rules tally (air_in l) (payload_in n l))) = omega arith in
       ap₂ (λ (k : ℕ) (fs : List Frame). take k fs) one (frames_more rules l n e)
 
   taken_none : (tally : Tally) (l : List ℕ) (ended : Ended Ending) → Halts (full_at tally) l ended → taken_in tally l ≡ []
@@ -82,13 +78,13 @@ module _ (rules : Rules) where
       let here = walk_stops (sheet_walk rules) sheet_sound s l ended over in
       let there = walk_stops (list_walk rules) (list_sound rules) s.tally l ended (list_stopped s l ended over) in
       record {
-        sheet = rw (here, taken_none s.tally l ended (halts totals_full (totals_in rules) (λ t n m. []) s l ended over));
+        sheet = rw (here, taken_none s.tally l ended (halts (sheet_reading rules) s l ended over));
         tally = rw (here, there);
         text = rw here;
         rest = rw (here, there);
       }
 
-  takes : (s : Totals) (l : List ℕ) (n : ℕ) → (sheet_walk rules).cut s l ≡ whole n → AsListed (totals_in rules s n l) (drop (record_size n) l) → AsListed s l
+  takes : (s : Totals) (l : List ℕ) (n : ℕ) → (sheet_walk rules).cut s l ≡ whole n → AsListed (totals_in rules s (air_in l) (payload_in n l)) (drop (record_size n) l) → AsListed s l
   takes s l n e more =
       let here = walk_takes (sheet_walk rules) sheet_sound s l n e in
       let there = walk_takes (list_walk rules) (list_sound rules) s.tally l n e in

@@ -3,15 +3,14 @@
 use Rattle.std.specs.Prelude.{Bool, List, [], ◌++◌, ℕ}
 use Rattle.base.specs.declared.Edition.TheVariants.{Corrected}
 use Rattle.header.specs.declared.Rules.{Rules}
-use Rattle.frame.specs.Frames.{frame_of}
+use Rattle.frame.specs.Frames.{frame, frame_of}
 use Rattle.walk.specs.Walks.{Walk, closed_by, fed_of}
 use Rattle.record.specs.declared.Ending.{Ending}
-use Rattle.record.specs.Walks.{record_walk}
-use Rattle.sheet.specs.declared.Sheet.{Sheet}
+use Rattle.record.specs.Walks.{Reading, record_walk}
+use Rattle.sheet.specs.Sheets.{Sheet}
 use Rattle.sheet.specs.Sheets.{new_sheet, counted_of}
 use Rattle.lines.specs.declared.Tally.{Tally}
 use Rattle.lines.specs.Tallies.{nothing_heard}
-use Rattle.frame.specs.Recorded.{frame_in}
 use Rattle.listing.specs.Listing.{full_at, tally_in}
 use Rattle.sheet_lines.specs.Lines.{totals_title, totals_of}
 
@@ -32,13 +31,16 @@ abbrev pub totals_full : Totals → Bool
 totals_full s = full_at s.tally
 
 module _ (rules : Rules) where
-  -- after the record at the front, which has n payload bytes
-  abbrev pub totals_in : Totals → ℕ → List ℕ → Totals
-  totals_in s n l = record { sheet = counted_of s.sheet (frame_of (frame_in rules n l)); tally = tally_in rules s.tally n l }
+  -- after a record with this header and this payload
+  abbrev pub totals_in : Totals → List ℕ → List ℕ → Totals
+  totals_in s header payload = record { sheet = counted_of s.sheet (frame_of (frame rules header payload)); tally = tally_in rules s.tally header payload }
 
   -- records one after the other: each is counted, and has no text
+  abbrev pub sheet_reading : Reading Totals
+  sheet_reading = record { full = totals_full; next = totals_in; text = λ s header payload. [] }
+
   abbrev pub sheet_walk : Walk Totals ℕ Ending
-  sheet_walk = record_walk totals_full totals_in (λ s n l. [])
+  sheet_walk = record_walk sheet_reading
 
   abbrev pub totals_text : Totals → Bool → List ℕ
   totals_text s cut = totals_of rules.edition s.sheet s.tally cut

@@ -1,22 +1,20 @@
 -- For contracts inside: what the functions promise of a sheet, a tally and lent bytes.
 -- Assumes nothing.
-use Rattle.std.specs.Prelude.{◌≡◌, List, ℕ, ◌-◌, ◌≤◌, length, take}
+use Rattle.std.specs.Prelude.{◌≡◌, List, ℕ, ◌-◌, ◌≤◌, length, take, Ok, Err}
 use Rattle.text.specs.Text.{Put}
 use Rattle.header.specs.declared.Rules.{Rules}
-use Rattle.header.specs.declared.Answer.{Answer}
-use Rattle.header.specs.declared.Answer.TheVariants.{Accepted, Refused}
-use Rattle.frame.specs.Frames.{frame_of}
+use Rattle.header.specs.Answers.{Answer}
+use Rattle.frame.specs.Frames.{frame, frame_of}
 use Rattle.walk.specs.Walks.{walk_of}
 use Rattle.walk.specs.Moves.{Moved}
 use Rattle.record.specs.Walks.{ended_as}
 use Rattle.source.specs.declared.Source.{Source}
 use Rattle.source.specs.Lanes.{record_of, hear_of}
 use Rattle.source.specs.Counts.{counts_after}
-use Rattle.wide_sheet.specs.declared.WideSheet.{WideSheet}
+use Rattle.wide_sheet.specs.Wide.{WideSheet}
 use Rattle.wide_sheet.specs.Wide.{held}
 use Rattle.lines.specs.declared.Tally.{Tally}
 use Rattle.lines.specs.Tallies.{nothing_heard}
-use Rattle.frame.specs.Recorded.{frame_in}
 use Rattle.listing.specs.Listing.{tally_in}
 use Rattle.sheet_lines.specs.Lines.{totals_title}
 use Rattle.sheet_listing.specs.declared.Opened.{Opened}
@@ -27,16 +25,16 @@ use Rattle.sheet_listing.specs.Pieces.{Totals, blank_sheet, sheet_walk}
 -- the place of the record that an answer may change, that record after it, and the counts of refusals after it: an accepted frame changes its
 -- source's record, a refused one a count
 abbrev pub record_in : Answer → ℕ
-record_in (Accepted h flips) = record_of h
-record_in (Refused why) = 0
+record_in (Ok a) = record_of a.header
+record_in (Err why) = 0
 
 abbrev pub heard_by : Source → Answer → Source
-heard_by source (Accepted h flips) = hear_of source h flips
-heard_by source (Refused why) = source
+heard_by source (Ok a) = hear_of source a.header a.flips
+heard_by source (Err why) = source
 
 abbrev pub refused_by : List ℕ → Answer → List ℕ
-refused_by counts (Accepted h flips) = counts
-refused_by counts (Refused why) = counts_after counts why.number
+refused_by counts (Ok a) = counts
+refused_by counts (Err why) = counts_after counts why.number
 
 -- a sheet was opened: it starts with nothing counted, after its title
 pub record Opens (before after : List ℕ) (r : Opened) : Type 0 where
@@ -44,10 +42,10 @@ pub record Opens (before after : List ℕ) (r : Opened) : Type 0 where
   pub tally_is : r.tally ≡ nothing_heard
   pub line : Put before 0 totals_title after r.to
 
--- a record with n payload bytes was read: its answer, and the tally after it
-pub record Takes (rules : Rules) (tally : Tally) (l : List ℕ) (n : ℕ) (r : Taken) : Type 0 where
-  pub answer_is : r.answer ≡ frame_of (frame_in rules n l)
-  pub tally_is : r.tally ≡ tally_in rules tally n l
+-- a record was read: its answer, and the tally after it
+pub record Takes (rules : Rules) (tally : Tally) (header payload : List ℕ) (r : Taken) : Type 0 where
+  pub answer_is : r.answer ≡ frame_of (frame rules header payload)
+  pub tally_is : r.tally ≡ tally_in rules tally header payload
 
 -- a sheet and a tally, as the code holds them
 abbrev pub held_totals : WideSheet → Tally → Totals

@@ -3,7 +3,7 @@
 use Rattle.std.specs.Prelude.{List, ◌++◌, ℕ, length}
 use Rattle.base.specs.declared.Edition.{Edition}
 use Rattle.header.specs.declared.Rules.{Rules}
-use Rattle.sheet.specs.declared.Sheet.{Sheet}
+use Rattle.sheet.specs.Sheets.{Sheet}
 use Rattle.sheet.specs.Histories.{sheet_of}
 use Rattle.walk.specs.Walks.{cut_with, walk_of}
 use Rattle.lines.specs.Tallies.{nothing_heard}

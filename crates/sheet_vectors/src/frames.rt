@@ -3,7 +3,7 @@ ghost use Rattle.std.specs.Prelude.{◌≡◌, ◌+◌};
 ghost use Rattle.marshalling.specs.declared.format.TheConstants.{VALUES};
 
 use air::WORD_COUNT;
-use header::{Answer, Fields, Header, Read, Rules};
+use header::{Fields, Header, Read, Rules};
 use marshalling::format::{Record, Reply};
 use marshalling::{format, numbers};
 
@@ -11,23 +11,7 @@ use marshalling::{format, numbers};
 fn put_fields(reply: &mut Reply, f: Fields) -> usize
     ensures { result ≡ VALUES + 14 }
 {
-    let values = [
-        f.src_id,
-        f.dst_id,
-        f.fr_cnt_tx,
-        f.fr_cnt_rx,
-        f.snr,
-        f.ai_type_src,
-        f.ai_type_dst,
-        f.dfc_id,
-        f.caller,
-        f.arq,
-        f.pdu_type_id,
-        f.bch_rq,
-        f.hailing,
-        f.ud_fl1,
-    ];
-    numbers::put_bytes(reply, format::VALUES, &values)
+    numbers::put_bytes(reply, format::VALUES, &f.values())
 }
 
 fn put_accepted(reply: &mut Reply, header: Header, flips: u32) {
@@ -50,8 +34,8 @@ pub fn put_read(reply: &mut Reply, read: Read) {
     put_patterns(reply, patterns);
     let answer = read.answer;
     match answer {
-        Answer::Accepted { header, flips } => put_accepted(reply, header, flips),
-        Answer::Refused(why) => numbers::put_refusal(reply, why),
+        Ok(accepted) => put_accepted(reply, accepted.header, accepted.flips),
+        Err(why) => numbers::put_refusal(reply, why),
     }
 }
 

@@ -5,7 +5,7 @@ ghost use Rattle.marshalling.specs.declared.format.TheConstants.{COUNTS_AFTER, L
 use crate::frames;
 use marshalling::format::{Record, Reply};
 use marshalling::{format, numbers};
-use sheet::{Offered, Sheet};
+use sheet::{FlownOffered, FlownSheet};
 use source::{Lane, REFUSAL_COUNTS, Source};
 
 fn lane_at(record: &Record, at: usize) -> Lane
@@ -33,14 +33,7 @@ pub fn source_at(record: &Record, at: usize) -> Source
 
 // Whether all bytes are 0.
 fn all_zero(bytes: &[u8]) -> bool {
-    let mut k = 0;
-    while k < bytes.len() {
-        if bytes[k] != 0 {
-            return false;
-        }
-        k += 1;
-    }
-    true
+    bytes.iter().all(|byte| *byte == 0)
 }
 
 // Whether a source of the record is all 0.
@@ -57,14 +50,12 @@ fn sources_of(record: &Record, sheet: usize) -> [Source; 8]
 {
     let fresh = sheet::new_sheet();
     let mut sources = fresh.sources;
-    let mut k = 0;
-    while k < 8 {
+    for k in 0..8 {
         let at = sheet + k * format::SOURCE;
         if !is_silent(record, at) {
             let source = source_at(record, at);
             sources[k] = source;
         }
-        k += 1;
     }
     sources
 }
@@ -74,20 +65,18 @@ pub fn counts_of(record: &Record, counts: usize) -> [u32; REFUSAL_COUNTS]
     requires { counts ≤ SHEETS_HEADER }
 {
     let mut read = [0u32; REFUSAL_COUNTS];
-    let mut k = 0;
-    while k < REFUSAL_COUNTS {
+    for k in 0..REFUSAL_COUNTS {
         read[k] = numbers::four_at(record, counts + k * format::COUNT) as u32;
-        k += 1;
     }
     read
 }
 
-fn sheet_of(record: &Record, sheet: usize) -> Sheet
+fn sheet_of(record: &Record, sheet: usize) -> FlownSheet
     requires { sheet ≤ SIGNED }
 {
     let sources = sources_of(record, sheet);
     let refusals = counts_of(record, sheet + format::REFUSALS);
-    Sheet { sources, refusals }
+    FlownSheet { sources, refusals }
 }
 
 // Puts a lane, and answers the place after it. The last counter is 0 where the lane was not heard.
@@ -119,27 +108,23 @@ pub fn put_counts(reply: &mut Reply, at: usize, counts: [u32; REFUSAL_COUNTS])
     requires { at ≤ COUNTS_AFTER }
 {
     let mut next = at;
-    let mut k = 0;
-    while k < REFUSAL_COUNTS {
-        next = numbers::put_four(reply, next, counts[k]);
-        k += 1;
+    for count in counts {
+        next = numbers::put_four(reply, next, count);
     }
 }
 
-fn put_sheet(reply: &mut Reply, sheet: Sheet) {
+fn put_sheet(reply: &mut Reply, sheet: FlownSheet) {
     let sources = sheet.sources;
-    let mut k = 0;
-    while k < 8 {
+    for k in 0..8 {
         let source = sources[k];
         put_source(reply, k, source);
-        k += 1;
     }
     let refusals = sheet.refusals;
     put_counts(reply, format::COUNTS_AFTER, refusals);
 }
 
 // The frame offered, with call sign bits or without them.
-fn offered_to(record: &Record, header: &[u8], payload: &[u8]) -> Offered {
+fn offered_to(record: &Record, header: &[u8], payload: &[u8]) -> FlownOffered {
     let sheet = sheet_of(record, format::SIGNED);
     let rules = frames::rules_of(record);
     if frames::is_signed(record) {

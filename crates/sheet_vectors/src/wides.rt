@@ -32,8 +32,8 @@ fn wide_sheet_of(record: &Record) -> WideSheet {
 // The source that is shown: that of an accepted frame, else that of the record.
 fn shown_source(record: &Record, answer: Answer) -> u8 {
     match answer {
-        Answer::Accepted { header, flips } => header.fields.src_id,
-        Answer::Refused(why) => heard_source(record),
+        Ok(accepted) => accepted.header.fields.src_id,
+        Err(_) => heard_source(record),
     }
 }
 

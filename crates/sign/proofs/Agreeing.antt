@@ -1,22 +1,19 @@
 -- Call sign bits that agree with a satellite's: what the tests of rows 23 and 24 say, and the loop behind the second.
 -- Assumes nothing.
-use mathlib.Core.Path.{◌≡◌, refl, sym, ap, ◌∙◌}
+use mathlib.Core.Path.{◌≡◌, refl, sym, ◌∙◌}
 use mathlib.Core.Bool.{Bool, true, false, not}
 use mathlib.Core.List.{List}
-use Prim.Native.Nat.{ℕ, ◌+◌, ◌≤◌, ◌<◌}
+use Prim.Native.Nat.{ℕ, ◌≤◌, ◌<◌}
 use native.Mathlib.Nat.{mod-lt}
 use native.Mathlib.Omega.{arith}
 use lib.Dec.{eqb, lit<}
 use lib.ListN.{length, get_or, get_or-eq_default}
 use borrow.Author.Tests.{eq-eqb, ne_eqb, eqb-true, eqb-false, not-false}
-use Rattle.base.specs.declared.Edition.{Edition}
-use Rattle.base.specs.declared.Edition.TheVariants.{Flown, Corrected}
 use Rattle.base.proofs.Tabulate.{tabulate_length, tabulate_at, tabulate_is, tabulate_all}
-use Rattle.base.proofs.Lowest.{Passed, starts, goes_on, stops, ends, lowest_is, lowest_none}
-use Rattle.air.specs.Air.{first_no_bit}
+use Rattle.base.proofs.Lowest.{Passed, stops, ends, lowest_is, lowest_none}
 use Rattle.air.proofs.Bits.{no_bit_none}
 use Rattle.sign.specs.CallSigns.{sign_bit, sign_width, sign_of}
-use Rattle.sign.specs.Calls.{Call, absent, given, call_of, looks_at, looked_at, fault_at, first_other, other_at, Agrees}
+use Rattle.sign.specs.Calls.{Call, absent, given, fault_at, first_other, other_at, Agrees}
 
 pub past_end : (call : List ℕ) (n : ℕ) → length call ≤ n → 0 ≡ get_or call n 0
 past_end call n h = sym (get_or-eq_default call 0 {n = n} h)
@@ -29,13 +26,7 @@ module _ (call : List ℕ) (satellite : ℕ) where
   abbrev pub Same : ℕ → Type 0
   Same n = Passed sign_width other n
 
-  pub same_starts : Same 0
-  same_starts = starts sign_width other
-
   module _ (n : ℕ) (so : Same n) (x bit : ℕ) (found : x ≡ get_or call n 0) (is : bit ≡ sign_bit satellite n) (h : n < sign_width) where
-    pub same_goes_on : x ≡ bit → Same (n + 1)
-    same_goes_on e = goes_on sign_width other n so h (rw (← found, ← is, eq-eqb x bit e))
-
     pub same_stops : (x ≡ bit → ⊥) → n ≡ first_other call satellite
     unfolding first_other
     same_stops e = stops sign_width other n so h (rw (← found, ← is, ne_eqb x bit e))
@@ -66,34 +57,6 @@ sign_long satellite = tabulate_length (sign_bit satellite) sign_width
 pub sign_bits : (satellite k : ℕ) → get_or (sign_of satellite) k 0 < 2
 unfolding sign_of sign_bit
 sign_bits satellite k = tabulate_all (λ x. x < 2) (sign_bit satellite) sign_width (lit< tt) (λ n h. mod-lt _ (lit< tt)) k
-
--- what the code asks of bits that are there or not
-looked_as : (edition : Edition) (there : Bool) (call : List ℕ) → looked_at edition (call_of there call) ≡ call_of (looks_at edition there) call
-looked_as Flown true call = refl
-looked_as Flown false call = refl
-looked_as Corrected true call = refl
-looked_as Corrected false call = refl
-
-module _ (edition : Edition) (there looked : Bool) (asked : looked ≡ looks_at edition there) (call : List ℕ) where
-  looked_is : (told : Bool) → looked ≡ told → looked_at edition (call_of there call) ≡ call_of told call
-  looked_is told so = looked_as edition there call ∙ ap (λ (b : Bool). call_of b call) (sym asked ∙ so)
-
-  -- row 23's place, as the code finds it
-  pub no_bit_at : looked ≡ true → length call ≡ sign_width → (at : ℕ) → at ≡ first_no_bit call → at ≡ fault_at (looked_at edition (call_of there call))
-  no_bit_at so long at is = is ∙ rw (looked_is true so, eq-eqb (length call) sign_width long)
-
-  pub other_length : looked ≡ true → (length call ≡ sign_width → ⊥) → length call ≡ fault_at (looked_at edition (call_of there call))
-  other_length so differs = rw (looked_is true so, ne_eqb (length call) sign_width differs)
-
-  pub no_fault_at : looked ≡ false → sign_width ≡ fault_at (looked_at edition (call_of there call))
-  no_fault_at so = rw (looked_is false so)
-
-  -- row 24's test
-  pub other_found : looked ≡ true → (satellite at : ℕ) → at ≡ first_other call satellite → at ≡ other_at (looked_at edition (call_of there call)) satellite
-  other_found so satellite at is = is ∙ rw (looked_is true so)
-
-  pub no_other_at : looked ≡ false → (satellite : ℕ) → sign_width ≡ other_at (looked_at edition (call_of there call)) satellite
-  no_other_at so satellite = rw (looked_is false so)
 
 -- WHAT THE TESTS OF ROWS 23 AND 24 SAY: together, that the call sign agrees where it is looked at
 pub tests_agree : (call : Call) (satellite : ℕ) → fault_at call ≡ sign_width → sign_width ≤ other_at call satellite → Agrees call satellite

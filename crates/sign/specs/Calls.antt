@@ -1,6 +1,7 @@
 -- Call sign bits that are given with a frame, or not.
 -- Assumes nothing.
-use Rattle.std.specs.Prelude.{◌≡◌, Bool, true, false, cond, not, List, ℕ, eqb, length, get_or}
+use Rattle.std.specs.Prelude.{◌≡◌, Bool, true, false, cond, not, Option, Some, None, List, ℕ, eqb, length, get_or}
+use Rattle.std.specs.Borrow.{Bor}
 use Rattle.base.specs.declared.Edition.{Edition}
 use Rattle.base.specs.declared.Edition.TheVariants.{Flown, Corrected}
 use Rattle.base.specs.Lists.{lowest}
@@ -15,6 +16,11 @@ pub data Call : Type 0 where
 abbrev pub call_of : Bool → List ℕ → Call
 call_of true call = given call
 call_of false call = absent
+
+-- the same of lent bits that may be there
+abbrev pub call_in : Option (Bor (List ℕ)) → Call
+call_in (Some call) = given call.now
+call_in None = absent
 
 -- "When given under the flown edition"; "under the corrected edition they aren't looked at"
 abbrev pub looks_at : Edition → Bool → Bool

@@ -1,9 +1,9 @@
 // The call signs of the four S-NET satellites as 48 bits, and the bits that an upload may include held against them.
 #![tactic(auto)]
 
-ghost use Rattle.std.specs.Prelude.{◌≡◌, get_or};
+ghost use Rattle.std.specs.Prelude.{◌≡◌, get_or, is_some};
 ghost use Rattle.sign.specs.CallSigns.{call_sign, sign_bit, sign_of};
-ghost use Rattle.sign.specs.Calls.{call_of, looks_at, looked_at, fault_at, first_other, other_at};
+ghost use Rattle.sign.specs.Calls.{call_in, looks_at, looked_at, fault_at, first_other, other_at};
 
 use base::Edition;
 
@@ -46,33 +46,33 @@ pub fn call_sign(satellite: u8) -> [u8; SIGN_BITS]
     ensures { result ≡ sign_of satellite }
 {
     let mut bits = [0u8; SIGN_BITS];
-    let mut n = 0;
-    while n < SIGN_BITS {
+    for n in 0..SIGN_BITS {
         bits[n] = sign_bit(satellite, n);
-        n += 1;
     }
     bits
 }
 
 // Whether call sign bits, which are given or not, are looked at.
-pub fn looks_at(edition: Edition, given: bool) -> bool
-    ensures { result ≡ looks_at edition given }
+pub fn looks_at(edition: Edition, call: Option<&[u8]>) -> bool
+    ensures { result ≡ looks_at edition (is_some call.entry) }
 {
     match edition {
-        Edition::Flown => given,
+        Edition::Flown => call.is_some(),
         Edition::Corrected => false,
     }
 }
 
 // Where call sign bits that are looked at are none: at their length where that is not 48, or else at the lowest element above 1. 48
-// where nothing is wrong, or they are not looked at. `given` says whether there are any, and `call` which.
-pub fn fault_at(edition: Edition, given: bool, call: &[u8]) -> usize
-    ensures { result ≡ fault_at (looked_at edition (call_of given call.now)) }
+// where nothing is wrong, or they are not looked at.
+pub fn fault_at(edition: Edition, call: Option<&[u8]>) -> usize
+    ensures { result ≡ fault_at (looked_at edition (call_in call.entry)) }
 {
-    if looks_at(edition, given) {
-        let n = call.len();
+    if let Some(bits) = call
+        && looks_at(edition, call)
+    {
+        let n = bits.len();
         if n == SIGN_BITS {
-            return air::first_no_bit(call);
+            return air::first_no_bit(bits);
         }
         return n;
     }
@@ -93,22 +93,22 @@ fn element(call: &[u8], n: usize) -> u8
 fn first_other(call: &[u8], satellite: u8) -> usize
     ensures { result ≡ first_other call.now satellite }
 {
-    let mut n = 0;
-    while n < SIGN_BITS {
+    for n in 0..SIGN_BITS {
         if element(call, n) != sign_bit(satellite, n) {
             return n;
         }
-        n += 1;
     }
-    n
+    SIGN_BITS
 }
 
 // Where call sign bits that are looked at differ from a satellite's: the lowest place. 48 where they agree, or are not looked at.
-pub fn other_at(edition: Edition, given: bool, call: &[u8], satellite: u8) -> usize
-    ensures { result ≡ other_at (looked_at edition (call_of given call.now)) satellite }
+pub fn other_at(edition: Edition, call: Option<&[u8]>, satellite: u8) -> usize
+    ensures { result ≡ other_at (looked_at edition (call_in call.entry)) satellite }
 {
-    if looks_at(edition, given) {
-        return first_other(call, satellite);
+    if let Some(bits) = call
+        && looks_at(edition, call)
+    {
+        return first_other(bits, satellite);
     }
     SIGN_BITS
 }

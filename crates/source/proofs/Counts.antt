@@ -1,34 +1,35 @@
 -- The count of a refusal's number: the search for its place, and the counts after it.
 -- Assumes nothing.
-use Rattle.std.proofs.Common.{◌≡◌, ℕ, ◌+◌, ◌<◌, ◌≤◌, Bool, true, eqb, List, get_or, set, sym, refl, le-ltb, lt-ltb, eq-eqb, ne_eqb}
+use Rattle.std.proofs.Common.{◌≡◌, ℕ, ◌<◌, ◌≤◌, true, cond, eqb, ltb, List, length, get_or, set, sym, refl, arith, le-ltb, lt-ltb}
+use Rattle.std.specs.Prelude.{Option, Some, None}
+use Rattle.std.specs.Option.{unwrap_or}
+use Rattle.std.specs.List.{position_or_len}
+use Rattle.std.proofs.lemmas.List.Sums.{position_or_len_is}
+use mathlib.Core.Logic.{⊎_elim}
 use Rattle.base.specs.Lists.{lowest}
-use Rattle.base.proofs.Lowest.{Passed, starts, goes_on, stops, ends}
+use Rattle.base.proofs.Lowest.{Lowest, lowest_is}
+use Rattle.base.proofs.Tests.{lt_or_ge}
 use Rattle.base.proofs.Numbers.{Among, all_placed, placed, place_one}
 use Rattle.source.specs.Records.{add_of}
 use Rattle.source.specs.Counts.{counted, counted_at, refusal_counts, slot_of, counts_after}
 
--- THE SLOT OF A NUMBER: the numbers before k are others
-module _ (number : ℕ) where
-  abbrev is_number : ℕ → Bool
-  is_number k = eqb number (counted_at k)
+-- THE SLOT OF A NUMBER: the first place that it stands at, or past the last where it has none
+slot_place : (number : ℕ) → position_or_len (λ (x : ℕ). eqb number x) counted ≡ slot_of number
+unfolding slot_of
+slot_place number =
+    let low : Lowest (λ k. eqb number (counted_at k)) refusal_counts (lowest refusal_counts (λ k. eqb number (counted_at k))) = lowest_is (λ k. eqb number (counted_at k)) refusal_counts in
+    position_or_len_is (λ (x : ℕ). eqb number x) counted (slot_of number) 0 low.inside low.before low.passes
 
-  abbrev pub Looked : ℕ → Type 0
-  Looked k = Passed refusal_counts is_number k
+slot_inside : (number : ℕ) → slot_of number ≤ refusal_counts
+unfolding slot_of
+slot_inside number = (lowest_is (λ k. eqb number (counted_at k)) refusal_counts).inside
 
-  pub look_starts : Looked 0
-  look_starts = starts refusal_counts is_number
-
-  module _ (k : ℕ) (so : Looked k) where
-    pub look_goes_on : k < refusal_counts → (number ≡ counted_at k → ⊥) → Looked (k + 1)
-    look_goes_on h other = goes_on refusal_counts is_number k so h (ne_eqb number (counted_at k) other)
-
-    pub look_stops : k < refusal_counts → number ≡ counted_at k → k ≡ slot_of number
-    unfolding slot_of
-    look_stops h same = stops refusal_counts is_number k so h (eq-eqb number (counted_at k) same)
-
-    pub look_ends : refusal_counts ≤ k → k ≡ slot_of number
-    unfolding slot_of
-    look_ends h = ends refusal_counts is_number k so h
+pub slot_found : (number : ℕ) (r : Option ℕ) → r ≡ cond (ltb (position_or_len (λ (x : ℕ). eqb number x) counted) (length counted)) (Some (position_or_len (λ (x : ℕ). eqb number x) counted)) None → unwrap_or r refusal_counts ≡ slot_of number
+slot_found number r e =
+    rw (e, slot_place number)
+    (⊎_elim (λ (there : slot_of number < refusal_counts). rw (lt-ltb (slot_of number) refusal_counts there) refl)
+    (λ (none : refusal_counts ≤ slot_of number). rw (le-ltb (slot_of number) refusal_counts none) (omega (arith, slot_inside number)))
+    (lt_or_ge (slot_of number) refusal_counts))
 
 -- the counts with one changed, or unchanged
 module _ (counts : List ℕ) (number k : ℕ) (found : k ≡ slot_of number) where

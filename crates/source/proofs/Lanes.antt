@@ -4,7 +4,7 @@ use Rattle.std.proofs.Common.{◌≡◌, ℕ, ◌+◌, ◌<◌, ◌≤◌, Bool,
 use borrow.Author.Tests.{eqb-false}
 use Rattle.base.proofs.OneMore.{sum_set}
 use Rattle.header.specs.declared.Header.{Header}
-use Rattle.header.specs.declared.Answer.TheVariants.{Accepted}
+use Rattle.header.specs.Answers.{accepted}
 use Rattle.source.specs.declared.Lane.{Lane}
 use Rattle.source.specs.declared.Source.{Source}
 use Rattle.source.specs.declared.Display.{Display}
@@ -52,7 +52,7 @@ hear_frames s h flips room = omega (arith, after_frames as_caller s h flips (roo
 -- A LIST OF SOURCES in which the frame has a record
 module _ (sources : List Source) (h : Header) (flips : ℕ) (there : record_of h < length sources) where
   -- each lane of each source hears its own frames
-  pub heard_lane : (k : ℕ) (role : Role) → lane_of role (source_in (heard_in sources h flips) k) ≡ replay_from (lane_of role (source_in sources k)) (own_in k role (Accepted h flips))
+  pub heard_lane : (k : ℕ) (role : Role) → lane_of role (source_in (heard_in sources h flips) k) ≡ replay_from (lane_of role (source_in sources k)) (own_in k role (accepted h flips))
   heard_lane k role = by (eqb (record_of h) k) refl
     where
       next : Source
@@ -65,7 +65,7 @@ module _ (sources : List Source) (h : Header) (flips : ℕ) (there : record_of h
       mine true l = refl
       mine false l = refl
 
-      by : (b : Bool) → eqb (record_of h) k ≡ b → lane_of role (source_in (heard_in sources h flips) k) ≡ replay_from (lane_of role (source_in sources k)) (own_in k role (Accepted h flips))
+      by : (b : Bool) → eqb (record_of h) k ≡ b → lane_of role (source_in (heard_in sources h flips) k) ≡ replay_from (lane_of role (source_in sources k)) (own_in k role (accepted h flips))
       by true e =
           let same : record_of h ≡ k = eqb-true (record_of h) k e in
           rw (e, ← same, get_or-set_same sources (record_of h) next silent there)

@@ -1,10 +1,9 @@
 -- A source's record: its two lanes, what an accepted frame changes there, and the sums over both. Lists of records, of any length.
 -- Assumes nothing.
-use Rattle.std.specs.Prelude.{ℕ, ◌+◌, Bool, false, cond, not, ◌&&◌, List, [], ◌∷◌, ◌==◌, nat_lt, slice_index_or, slice_set}
+use Rattle.std.specs.Prelude.{ℕ, ◌+◌, Bool, false, cond, not, ◌&&◌, List, [], ◌∷◌, ◌==◌, nat_lt, slice_index_or, slice_set, Ok, Err}
 use Rattle.base.specs.Lists.{sum_to}
 use Rattle.header.specs.declared.Header.{Header}
-use Rattle.header.specs.declared.Answer.{Answer}
-use Rattle.header.specs.declared.Answer.TheVariants.{Accepted, Refused}
+use Rattle.header.specs.Answers.{Answer}
 use Rattle.source.specs.declared.Lane.{Lane}
 use Rattle.source.specs.declared.Source.{Source}
 use Rattle.source.specs.declared.Display.{Display}
@@ -75,10 +74,10 @@ display_in n sources k = summed_of (cond (nat_lt k n) (source_in sources k) sile
 -- THE LANES OF RECORD k
 -- whether an answer is that to an accepted frame of a lane
 abbrev pub of_lane : ℕ → Role → Answer → Bool
-of_lane k role (Accepted h flips) = record_of h == k && sent_as role h
-of_lane k role (Refused why) = false
+of_lane k role (Ok a) = record_of a.header == k && sent_as role a.header
+of_lane k role (Err why) = false
 
 -- what a lane hears of an answer: of its own accepted frames
 abbrev pub own_in : ℕ → Role → Answer → List Own
-own_in k role (Accepted h flips) = cond (of_lane k role (Accepted h flips)) (record { counter = h.«fields».fr_cnt_tx; flips = flips } ∷ []) []
-own_in k role (Refused why) = []
+own_in k role (Ok a) = cond (of_lane k role (Ok a)) (record { counter = a.header.«fields».fr_cnt_tx; flips = a.flips } ∷ []) []
+own_in k role (Err why) = []

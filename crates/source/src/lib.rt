@@ -6,34 +6,32 @@ ghost use Rattle.source.specs.Records.{count_limit, add_of, missed_of, tally_of,
 ghost use Rattle.source.specs.Lanes.{lanes, silent, hear_of, frames_of, repaired_of, summed_of};
 ghost use Rattle.source.specs.Counts.{counted_at, refusal_counts, slot_of, counts_after, total_in};
 
-use base::{
-    BEYOND_REPAIR, CRC5_DIFFERS, CRC13_DIFFERS, FLIPS_ABOVE_LIMIT, LIMIT_ABOVE_42, NO_BIT,
-    NO_CALL_SIGN, NOT_210_LONG, OTHER_CALL_SIGN, OTHER_LENGTH, UNKNOWN_CODING, UNKNOWN_SOURCE,
-};
+use base::Reason;
 use header::Header;
 
 // The refusals that are counted, in the order of their counts.
 pub const REFUSAL_COUNTS: usize = 12;
 
 const COUNTED: [u8; REFUSAL_COUNTS] = [
-    NOT_210_LONG,
-    NO_BIT,
-    BEYOND_REPAIR,
-    CRC5_DIFFERS,
-    UNKNOWN_SOURCE,
-    UNKNOWN_CODING,
-    OTHER_LENGTH,
-    CRC13_DIFFERS,
-    LIMIT_ABOVE_42,
-    FLIPS_ABOVE_LIMIT,
-    NO_CALL_SIGN,
-    OTHER_CALL_SIGN,
+    Reason::Not210Long as u8,
+    Reason::NoBit as u8,
+    Reason::BeyondRepair as u8,
+    Reason::Crc5Differs as u8,
+    Reason::UnknownSource as u8,
+    Reason::UnknownCoding as u8,
+    Reason::OtherLength as u8,
+    Reason::Crc13Differs as u8,
+    Reason::LimitAbove42 as u8,
+    Reason::FlipsAboveLimit as u8,
+    Reason::NoCallSign as u8,
+    Reason::OtherCallSign as u8,
 ];
 
 // Frame counters run from 0 to 15.
 const COUNTERS: u8 = 16;
 
-// What is counted of one lane. Where it was never heard, `last` says nothing.
+// What is counted of one lane. Where it was never heard, `last` says nothing. (A flag and a number, no Option: a caller may make up a lane
+// with any number beside the flag, as the stored vectors do, and `next` keeps what it says of it.)
 #[derive(Clone, Copy)]
 pub struct Lane {
     pub frames: u32,
@@ -63,9 +61,6 @@ pub struct Display {
     pub repaired: u64,
 }
 
-// The most that a count can be.
-const COUNT_LIMIT: u32 = 4294967295;
-
 // A source that was never heard.
 pub fn never_heard() -> Source
     ensures { result ≡ silent }
@@ -88,18 +83,14 @@ pub fn never_heard() -> Source
 fn add(count: u32, more: u32) -> u32
     ensures { result ≡ add_of count more }
 {
-    if COUNT_LIMIT - count < more {
-        return COUNT_LIMIT;
-    }
-    count + more
+    count.saturating_add(more)
 }
 
 // The frames between two counters. Both may be above 15: 256 is a multiple of 16, so a difference that wraps is right mod 16.
 fn missed(last: u8, new: u8) -> u32
     ensures { result ≡ missed_of last new }
 {
-    let apart = std::num::wrapping_sub_u8(new, last);
-    let between = std::num::wrapping_sub_u8(apart, 1);
+    let between = new.wrapping_sub(last).wrapping_sub(1);
     (between % COUNTERS) as u32
 }
 
@@ -194,14 +185,10 @@ pub fn counted_number(k: usize) -> u8
 fn slot(number: u8) -> usize
     ensures { result ≡ slot_of number }
 {
-    let mut k = 0;
-    while k < REFUSAL_COUNTS {
-        if number == COUNTED[k] {
-            return k;
-        }
-        k += 1;
-    }
-    k
+    COUNTED
+        .iter()
+        .position(|counted| number == *counted)
+        .unwrap_or(REFUSAL_COUNTS)
 }
 
 // The counts of refusals after a frame that was refused with a number. Where the number is not counted, they stay as they are.
@@ -223,10 +210,8 @@ pub fn total(counts: [u32; REFUSAL_COUNTS]) -> u64
     ensures upper_bound { result ≤ refusal_counts * count_limit }
 {
     let mut sum: u64 = 0;
-    let mut k = 0;
-    while k < REFUSAL_COUNTS {
-        sum += counts[k] as u64;
-        k += 1;
+    for count in &counts {
+        sum += *count as u64;
     }
     sum
 }

@@ -19,14 +19,3 @@ read_on Failed over = Failed
 -- how to go on after a read and the write that follows it
 abbrev pub onward_of : Next → Bool → Next
 onward_of read wrote = cond wrote read Failed
-
--- whether all that is wanted has come and was written
-abbrev pub done_of : Next → Bool
-done_of More = false
-done_of Done = true
-done_of Failed = false
-
--- the turns that are left after one: fewer, and none unless there is more to read
-pub record TurnsLeft (turns : ℕ) (next : Next) (r : ℕ) : Type 0 where
-  pub fewer : r < turns
-  pub more : 0 < r → next ≡ More

@@ -3,13 +3,15 @@
 
 ghost use Rattle.std.specs.Prelude.{◌≡◌, ◌+◌, ◌-◌, ◌%◌, ◌^◌, ◌<◌, ◌≤◌, false, length};
 ghost use Rattle.streams.specs.declared.Next.TheVariants.{More};
-ghost use Rattle.streams.specs.Turns.{ReadOn, read_on, onward_of, done_of, TurnsLeft};
+ghost use Rattle.streams.specs.Turns.{ReadOn, read_on, onward_of};
+
+pub mod pump;
 
 use std::io;
 use std::io::{Print, Read, Write};
 
 // How to go on.
-#[derive(Clone, Copy)]
+#[derive(Clone, Copy, PartialEq, Eq)]
 pub enum Next {
     // There is more to read.
     More,
@@ -78,17 +80,11 @@ pub fn fill(rt: HostRuntime, buf: &mut [u8]) -> Filled
     ensures { result.end ≤ length buf.new }
 {
     let mut end = 0;
+    // A `while`: each read says how far it came.
     while end < buf.len() {
         let filled = read_on(rt, buf, end);
-        let next = filled.next;
-        match next {
-            Next::More => {}
-            Next::Done => {
-                return filled;
-            }
-            Next::Failed => {
-                return filled;
-            }
+        if filled.next != Next::More {
+            return filled;
         }
         end = filled.end;
     }
@@ -105,38 +101,19 @@ pub struct Counted {
     pub next: Next,
 }
 
-// A length and some bytes more, as far as a number goes.
-fn longer(size: usize, more: usize) -> usize
-    ensures { size ≤ result }
-{
-    let room = usize::MAX - size;
-    if room < more {
-        return usize::MAX;
-    }
-    size + more
-}
-
 // Reads an input that has filled the buffer to its end, and counts all of it: never less than the buffer.
 pub fn count_on(rt: HostRuntime, buf: &mut [u8]) -> Counted
     requires { 0 < length buf.old }
     ensures { length buf.old ≤ result.size }
 {
     let mut size = buf.len();
-    let mut turns = u64::MAX;
-    while turns > 0 {
+    for _ in 0..u64::MAX {
         let filled = read_on(rt, buf, 0);
         let next = filled.next;
-        match next {
-            Next::More => {}
-            Next::Done => {
-                return Counted { size, next };
-            }
-            Next::Failed => {
-                return Counted { size, next };
-            }
+        if next != Next::More {
+            return Counted { size, next };
         }
-        size = longer(size, filled.end);
-        turns -= 1;
+        size = size.saturating_add(filled.end);
     }
     Counted {
         size,
@@ -160,14 +137,8 @@ pub fn after_read(read: Next, over: bool) -> Next
     ensures { result ≡ read_on read over }
 {
     match read {
-        Next::More => {
-            if over {
-                return Next::Done;
-            }
-            Next::More
-        }
-        Next::Done => Next::Done,
-        Next::Failed => Next::Failed,
+        Next::More if over => Next::Done,
+        _ => read,
     }
 }
 
@@ -188,29 +159,6 @@ pub fn send(rt: HostRuntime, out: &[u8], to: usize, read: Next, over: bool) -> N
 {
     let wrote = write(rt, &out[..to]);
     after_write(after_read(read, over), wrote)
-}
-
-// Whether all that is wanted has come and was written.
-pub fn is_done(next: Next) -> bool
-    ensures { result ≡ done_of next }
-{
-    match next {
-        Next::More => false,
-        Next::Done => true,
-        Next::Failed => false,
-    }
-}
-
-// The turns that are left: none, unless there is more to read.
-pub fn turns_left(turns: u64, next: Next) -> u64
-    requires { 0 < turns }
-    ensures { TurnsLeft turns next result }
-{
-    match next {
-        Next::More => turns - 1,
-        Next::Done => 0,
-        Next::Failed => 0,
-    }
 }
 
 // The place in an input of a buffer's front, where `left` of the `end` bytes in the buffer are left. A place past 2^64, which no input

@@ -8,3 +8,4 @@ pub mod Fixed
 pub mod Sizes
 pub mod Forming
 pub mod FormParts
+pub mod Signs

@@ -76,23 +76,3 @@ pub line_put : {l m n o : List ℕ} {at p q r : ℕ} (header payload : List ℕ)
     → Put l at (text_line header payload) o r
 unfolding text_line
 line_put header payload first second third = put_three first second third
-
--- the record at the front of some bytes
-module _ (l : List ℕ) (n : ℕ) (there : record_size n ≤ length l) where
-  header_size : length (take air_bits (drop length_bytes l)) ≡ air_bits
-  header_size = length-take-le air_bits (drop length_bytes l) (omega (arith, length-drop length_bytes l))
-
-  payload_size : length (take (record_size n - payload_start) (drop payload_start l)) ≡ n
-  payload_size = length-take-le (record_size n - payload_start) (drop payload_start l) (omega (arith, length-drop payload_start l)) ∙ omega arith
-
-  pub line_room_lem : (room to : ℕ) → to + 2 * record_size n ≤ room
-      → to + (2 * length (take air_bits (drop length_bytes l)) + (2 * length (take (record_size n - payload_start) (drop payload_start l)) + 2)) ≤ room
-  line_room_lem room to h = omega (arith, header_size, payload_size)
-
-  pub line_short : (to next : ℕ) → next ≤ to + (2 * length (take air_bits (drop length_bytes l)) + (2 * length (take (record_size n - payload_start) (drop payload_start l)) + 2))
-      → next ≤ to + 2 * record_size n
-  line_short to next h = omega (arith, header_size, payload_size)
-
-pub line_taken : {before after : List ℕ} {to next : ℕ} (l : List ℕ) (n : ℕ) → Put before to (text_line (air_in l) (take (record_size n - payload_start) (drop payload_start l))) after next
-    → Put before to (text_line_in n l) after next
-line_taken l n put = let same : record_size n - payload_start ≡ n = omega arith in rw same at put

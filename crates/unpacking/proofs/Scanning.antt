@@ -1,14 +1,11 @@
--- The loop of `unpack_records`: a line is at most twice as long as its record.
+-- The room of a line in the loop of `unpack_records`.
 -- Assumes nothing.
-use mathlib.Core.List.{List}
+use mathlib.Core.Path.{◌≡◌}
 use Prim.Native.Nat.{ℕ, ◌+◌, ◌*◌, ◌≤◌}
-use lib.ListN.{length}
-use Rattle.walk.proofs.Scanning as scan
-use Rattle.unpacking.specs.Unpacking.{line_walk}
-use Rattle.unpacking.proofs.Streaming.{line_sound}
+use native.Mathlib.Omega.{arith}
+use Rattle.air.specs.Air.{air_bits}
+use Rattle.record.specs.Records.{record_size}
 
-abbrev pub Scanning : List ℕ → List ℕ → ℕ → List ℕ → ℕ → ℕ → Type 0
-Scanning l before at out used to = scan.Scanning line_walk line_sound 2 tt l before at out tt used to
-
-pub starts : (l before : List ℕ) (at : ℕ) → at + 2 * length l ≤ length before → Scanning l before at before 0 at
-starts = scan.starts line_walk line_sound 2 tt
+-- a line is at most twice as long as its record
+pub line_small : (h p n : ℕ) → h ≡ air_bits → p ≡ n → 2 * h + (2 * p + 2) ≤ 2 * record_size n
+line_small h p n head body = omega arith

@@ -3,12 +3,15 @@
 use Rattle.std.specs.Prelude.{Bool, false, List, [], ℕ}
 use Rattle.walk.specs.Walks.{Walk, closed_by, Walked, walk_of, fed_of}
 use Rattle.record.specs.declared.Ending.{Ending}
-use Rattle.record.specs.Walks.{record_walk}
-use Rattle.unpacking.specs.Lines.{text_line_in}
+use Rattle.record.specs.Walks.{Reading, record_walk}
+use Rattle.unpacking.specs.Lines.{text_line}
 
 -- a whole record has a line: nothing is kept from one to the next, and none is refused
+abbrev pub line_reading : Reading (Unit {0})
+line_reading = record { full = λ s. false; next = λ s header payload. s; text = λ s header payload. text_line header payload }
+
 abbrev pub line_walk : Walk (Unit {0}) ℕ Ending
-line_walk = record_walk (λ s. false) (λ s n l. s) (λ s n l. text_line_in n l)
+line_walk = record_walk line_reading
 
 -- what becomes of some bytes
 abbrev pub scan_of : List ℕ → Walked (Unit {0}) Ending

@@ -10,22 +10,9 @@ use marshalling::{format, numbers};
 const HELD: u8 = 7;
 
 fn fields_of(record: &Record) -> Fields {
-    Fields {
-        src_id: record[format::EDITION],
-        dst_id: record[format::EDITION + 1],
-        fr_cnt_tx: record[format::EDITION + 2],
-        fr_cnt_rx: record[format::EDITION + 3],
-        snr: record[format::EDITION + 4],
-        ai_type_src: record[format::EDITION + 5],
-        ai_type_dst: record[format::EDITION + 6],
-        dfc_id: record[format::EDITION + 7],
-        caller: record[format::EDITION + 8],
-        arq: record[format::EDITION + 9],
-        pdu_type_id: record[format::EDITION + 10],
-        bch_rq: record[format::EDITION + 11],
-        hailing: record[format::EDITION + 12],
-        ud_fl1: record[format::EDITION + 13],
-    }
+    let mut values = [0u8; header::FIELD_COUNT];
+    values.copy_from_slice(&record[format::EDITION..format::WRITES_ROOM]);
+    Fields::from_values(values)
 }
 
 // Has a header written to a part of the reply, and answers what the writer does.

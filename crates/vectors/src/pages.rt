@@ -5,8 +5,8 @@ ghost use Rattle.marshalling.specs.declared.format.TheConstants.{REPLY_BYTES, VA
 use base::Written;
 use marshalling::format::{Record, Reply};
 use marshalling::{format, numbers};
-use page::{PageFields, PageHeader, PageVerdict};
-use scaling::{Scaling, ShownAnswer};
+use page::{PageFields, PageHeader};
+use scaling::Scaling;
 
 // What the output of the page writer holds beforehand.
 const HELD: u8 = 0xA7;
@@ -31,24 +31,14 @@ fn put_fields(reply: &mut Reply, f: PageFields) -> usize
     numbers::put_two(reply, next, f.frame_length)
 }
 
-// The bits of a number in two's complement.
-fn row_bits(x: i16) -> u16 {
-    if x < 0 {
-        return 65535 - ((!x) as u16);
-    }
-    x as u16
-}
-
 // Puts the rows, and answers the place after them.
 fn put_rows(reply: &mut Reply, at: usize, rows: [i16; 17]) -> usize
     requires { at + 34 ≤ REPLY_BYTES }
     ensures { result ≡ at + 34 }
 {
     let mut next = at;
-    let mut k = 0;
-    while k < 17 {
-        next = numbers::put_two(reply, next, row_bits(rows[k]));
-        k += 1;
+    for k in 0..17 {
+        next = numbers::put_two(reply, next, rows[k].cast_unsigned());
     }
     next
 }
@@ -67,8 +57,8 @@ pub fn page_reply(record: &Record, reply: &mut Reply) {
     let rows = answer.rows;
     let verdict = answer.verdict;
     match verdict {
-        PageVerdict::Read(header) => put_page(reply, header, rows),
-        PageVerdict::Refused(why) => numbers::put_refusal(reply, why),
+        Ok(header) => put_page(reply, header, rows),
+        Err(why) => numbers::put_refusal(reply, why),
     }
 }
 
@@ -76,19 +66,13 @@ pub fn page_reply(record: &Record, reply: &mut Reply) {
 fn signed_at(bytes: &[u8], at: usize) -> i16
     requires { at + 2 ≤ length bytes.now }
 {
-    let bits = numbers::two_at(bytes, at) as u16;
-    if bits < 32768 {
-        return bits as i16;
-    }
-    !((65535 - bits) as i16)
+    i16::from_be_bytes([bytes[at], bytes[at + 1]])
 }
 
 fn rows_of(record: &Record) -> [i16; 17] {
     let mut rows = [0i16; 17];
-    let mut r = 0;
-    while r < 17 {
+    for r in 0..17 {
         rows[r] = signed_at(record, 2 * r);
-        r += 1;
     }
     rows
 }
@@ -102,6 +86,7 @@ fn write_at(record: &Record, reply: &mut [u8], at: usize, room: usize) -> Writte
     page::write_page(rows_of(record), out)
 }
 
+// (Alike the reply to a header written but for places of the format: one function would take as many arguments as it has lines.)
 pub fn rows_reply(record: &Record, reply: &mut Reply) {
     let room = numbers::length_at(record, format::ROWS_ROOM, format::USER_ROOM);
     let next = numbers::put_two(reply, format::VALUES, room as u16);
@@ -109,24 +94,23 @@ pub fn rows_reply(record: &Record, reply: &mut Reply) {
     numbers::put_written(reply, answer);
 }
 
-// The f64 of its bits, of which every NaN's make one NaN: `from_bits` is not defined at them. They are a NaN's where the exponent is all
-// ones and a bit below it is set.
+// The bits of an infinity. Without a sign, those of every NaN are above them, and of no other number.
+const INFINITE: u64 = 0x7FF0_0000_0000_0000;
+
+// The f64 of its bits, of which every NaN's make one NaN: `from_bits` is not defined at them.
 fn float_of(bits: u64) -> f64 {
-    if bits % 0x8000_0000_0000_0000 / 0x10_0000_0000_0000 != 0x7FF {
-        return f64::from_bits(bits);
+    if INFINITE < bits % 0x8000_0000_0000_0000 {
+        return f64::NAN;
     }
-    if bits % 0x10_0000_0000_0000 == 0 {
-        return f64::from_bits(bits);
-    }
-    0.0 / 0.0
+    f64::from_bits(bits)
 }
 
 // The bits of a value, and all ones for every NaN: `to_bits` is not defined at one, and they are the bits of nothing else.
 fn bits_of(value: f64) -> u64 {
-    if value == value {
-        return f64::to_bits(value);
+    if value.is_nan() {
+        return u64::MAX;
     }
-    u64::MAX
+    value.to_bits()
 }
 
 pub fn shown_reply(record: &Record, reply: &mut Reply) {
@@ -137,9 +121,9 @@ pub fn shown_reply(record: &Record, reply: &mut Reply) {
         spread: numbers::two_at(record, format::SPREAD) as u32,
     };
     match scaling::shown(scaling, signed_at(record, format::RAW)) {
-        ShownAnswer::Value(value) => {
+        Ok(value) => {
             numbers::put_eight(reply, format::VALUES, bits_of(value));
         }
-        ShownAnswer::Refused(why) => numbers::put_refusal(reply, why),
+        Err(why) => numbers::put_refusal(reply, why),
     }
 }

@@ -2,22 +2,23 @@
 ghost use Rattle.std.specs.Prelude.{◌≡◌, ◌+◌, ◌<◌, ◌≤◌, ◌^◌};
 ghost use Rattle.marshalling.specs.declared.format.TheConstants.{RECORD_BYTES, REPAIRED, REPLY_BYTES};
 
+use crc::HeaderBits;
 use marshalling::format::{Record, Reply};
 use marshalling::{format, numbers};
 use word::Repaired;
 
 // Puts what repair makes of a number, and leaves zeros where it is beyond repair.
-fn put_repaired(reply: &mut Reply, at: usize, repaired: Repaired) -> usize
+fn put_repaired(reply: &mut Reply, at: usize, repaired: Option<Repaired>) -> usize
     requires { at + REPAIRED ≤ REPLY_BYTES }
     ensures { result ≡ at + REPAIRED }
 {
     match repaired {
-        Repaired::Word { word, flips } => {
+        Some(Repaired { word, flips }) => {
             let next = numbers::put_byte(reply, at, 1);
             let next = numbers::put_two(reply, next, word);
             numbers::put_two(reply, next, flips)
         }
-        Repaired::Beyond => at + format::REPAIRED,
+        None => at + format::REPAIRED,
     }
 }
 
@@ -69,7 +70,7 @@ pub fn crc5_reply(record: &Record, reply: &mut Reply) {
     let lo = fifteen_at(record, at + 30) * 0x200_0000
         + fifteen_at(record, at + 45) * 0x400
         + five_at(record, at + 60) * 0x20;
-    reply[0] = crc::crc5(numbers::edition_of(record), hi, lo);
+    reply[0] = crc::crc5(numbers::edition_of(record), HeaderBits { hi, lo });
 }
 
 // The bits of a satellite's call sign.

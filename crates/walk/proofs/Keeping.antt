@@ -10,6 +10,7 @@ use Rattle.text.proofs.Sizes.{part_size}
 use Rattle.walk.specs.Walks.{waits, Walk, Ended, waiting, walk_of}
 use Rattle.walk.specs.Moves.{Moved}
 use Rattle.walk.specs.Scans.{Scanned, Turned}
+use Rattle.walk.specs.Promises.{Passes, Turns}
 use Rattle.walk.proofs.Walking.{Sound, Stopped, short, Suffix, walk_rest, walk_stopped}
 
 -- the first n bytes have room where n bytes have
@@ -40,9 +41,6 @@ module _ {S I R : Type 0} (walk : Walk S I R) (sound : Sound walk) (start : S) w
     pub rest_inside : left ≤ end
     rest_inside = omega (arith, skipped)
 
-    pub rest_room : end - left + left ≤ length buf
-    rest_room = omega (arith, rest_inside)
-
     -- and are their end
     rest_there : take left (drop (end - left) buf) ≡ (walk_of walk start (take end buf)).rest
     rest_there =
@@ -71,9 +69,6 @@ module _ {S I R : Type 0} (walk : Walk S I R) (growth : ℕ) (start : S) (buf : 
   pub left_inside : left ≤ end
   left_inside = rest_inside walk sound start buf end inside left so.left_is
 
-  pub left_room : end - left + left ≤ length buf
-  left_room = rest_room walk sound start buf end inside left so.left_is
-
 -- and then stands at the buffer's front
 pub kept_rest : {S I R : Type 0} (walk : Walk S I R) → Sound walk → (growth : ℕ) (start : S) (buf : List ℕ) (end : ℕ) → end ≤ length buf → (out buf' out' : List ℕ) (state : S) (left to : ℕ) (ended : Ended R)
     → Turned walk growth start buf end out buf' out' state left to ended → take left buf' ≡ (walk_of walk start (take end buf)).rest
@@ -83,3 +78,19 @@ kept_rest walk sound growth start buf end inside out buf' out' state left to end
 pub text_inside : {S I R : Type 0} (walk : Walk S I R) (growth : ℕ) (start : S) (buf : List ℕ) (end : ℕ) (out buf' out' : List ℕ) (state : S) (left to : ℕ) (ended : Ended R)
     → Turned walk growth start buf end out buf' out' state left to ended → to ≤ length out'
 text_inside walk growth start buf end out buf' out' state left to ended turned = omega (arith, turned.listed.put.fits, turned.listed.put.kept)
+
+-- THE SAME where nothing was put
+pub scan_passes : {S I R : Type 0} {walk : Walk S I R} {growth : ℕ} {start : S} {l before : List ℕ} {at : ℕ} {after : List ℕ} {state : S} {left to : ℕ} {ended : Ended R}
+    → Scanned walk growth start l before at after state left to ended → Passes walk start l state left ended
+scan_passes so = record { state_is = so.state_is; left_is = so.left_is; ended_is = so.ended_is }
+
+module _ {S I R : Type 0} (walk : Walk S I R) (sound : Sound walk) (start : S) (state : S) (left : ℕ) (ended : Ended R) where
+  module _ (buf : List ℕ) (end : ℕ) (inside : end ≤ length buf) where
+    pub passed_inside : Passes walk start (take end buf) state left ended → left ≤ end
+    passed_inside so = rest_inside walk sound start buf end inside left so.left_is
+
+    pub passed_rest : (buf' : List ℕ) → Turns walk start buf end buf' state left ended → take left buf' ≡ (walk_of walk start (take end buf)).rest
+    passed_rest buf' turned = rest_moved walk sound start buf end inside left turned.walked.left_is buf' turned.kept
+
+  pub passed_short : (most : ℕ) → ((s : S) (l : List ℕ) → walk.cut s l ≡ waits → length l < most) → (l : List ℕ) → Passes walk start l state left ended → ended ≡ waiting → left < most
+  passed_short most few l so = left_short walk sound start most few l left ended so.left_is so.ended_is

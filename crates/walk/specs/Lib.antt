@@ -1,3 +1,4 @@
 pub mod Walks
 pub mod Moves
 pub mod Scans
+pub mod Promises

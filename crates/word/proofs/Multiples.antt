@@ -10,7 +10,7 @@ use lib.Dec.{eqb, leb, ltb, eqb→eq, leb→le, ltb→lt}
 use Rattle.base.specs.Lists.{lowest}
 use Rattle.base.proofs.Lowest.{every_below}
 use Rattle.base.proofs.Xor.{xor_assoc, xor_half, xor_four, xor_bit_times}
-use Rattle.word.specs.Words.{word_limit, product, generator, multiple_of, data_of, encode_of}
+use Rattle.word.specs.Words.{word_limit, product, generator, combined, multiple_of, data_of, encode_of}
 
 product_xor : (k a b c : ℕ) → product k (bit_xor a b) c ≡ bit_xor (product k a c) (product k b c)
 product_xor zero a b c = refl
@@ -28,10 +28,6 @@ unfolding multiple_of lowest ones_in
 multiple_zero zero small few = refl
 multiple_zero (suc p) small few =
     absurd (lt_irrefl 6 (le_trans (leb→le 7 (ones_in 15 (multiple_of (suc p))) (every_below 31 (λ p. leb 7 (ones_in 15 (multiple_of (suc p)))) refl p (le_of_suc-le-suc small))) few))
-
--- the sum of those of five words that the bits of n name
-abbrev pub combined : ℕ → ℕ → ℕ → ℕ → ℕ → ℕ → ℕ
-combined n a b c d e = bit_xor (bit_xor (bit_xor (bit_xor (n % 2 * a) (n / 2 % 2 * b)) (n / 4 % 2 * c)) (n / 8 % 2 * d)) (n / 16 % 2 * e)
 
 -- a multiple is the sum of 0x537 times x^k over the coefficients of its multiplier
 pub multiple_bits : (q : ℕ) → combined q generator (generator * 2) (generator * 4) (generator * 8) (generator * 16) ≡ multiple_of q

@@ -1,16 +1,20 @@
 -- Repair: the nearest valid word, what is answered of it, and the table of flip patterns.
 -- Assumes nothing.
-use Rattle.std.specs.Prelude.{Bool, true, false, cond, List, ℕ, ◌^◌, ◌≤◌, leb, ltb, eqb}
+use Rattle.std.specs.Prelude.{Bool, true, false, cond, List, Option, Some, None, ℕ, ◌^◌, ◌≤◌, leb, ltb, eqb}
 use Rattle.std.specs.Int.Bits.{bit_xor}
 use Rattle.base.specs.Lists.{lowest, tabulate}
 use Rattle.word.specs.Words.{word_limit, multiple_of, Valid, valid_count, parity_bits, data_of, encode_of, distance}
 use Rattle.word.specs.declared.Repaired.{Repaired}
-use Rattle.word.specs.declared.Repaired.TheVariants.{Word, Beyond}
 
 -- the nearest valid word, if there is one
-pub data Near : Type 0 where
-  at : ℕ → Near
-  none : Near
+abbrev pub Near : Type 0
+Near = Option ℕ
+
+abbrev pub at : ℕ → Near
+at = Some
+
+abbrev pub none : Near
+none = None
 
 -- "at most three places"
 abbrev pub radius : ℕ
@@ -34,27 +38,34 @@ nearest_word q = cond (ltb q valid_count) (at (multiple_of q)) none
 unfoldable pub nearest : ℕ → Near
 nearest w = cond (ltb w word_limit) (nearest_word (lowest valid_count (within w))) none
 
+-- an answer: the word v with the flip pattern e, or "beyond repair"
+abbrev pub found : ℕ → ℕ → Option Repaired
+found v e = Some (record { word = v; flips = e })
+
+abbrev pub beyond : Option Repaired
+beyond = None
+
 -- what is answered of the nearest valid word: it, and "the flip pattern itself", the places in which w differs from it
-abbrev pub repaired_to : ℕ → Near → Repaired
-repaired_to w (at v) = Word v (bit_xor w v)
-repaired_to w none = Beyond
+abbrev pub repaired_to : ℕ → Near → Option Repaired
+repaired_to w (Some v) = found v (bit_xor w v)
+repaired_to w None = beyond
 
 -- the answer of repair
-unfoldable pub repair_of : ℕ → Repaired
+unfoldable pub repair_of : ℕ → Option Repaired
 repair_of w = repaired_to w (nearest w)
 
 -- the parts of an answer; 0 where there is none
-abbrev pub is_beyond : Repaired → Bool
-is_beyond (Word v e) = false
-is_beyond Beyond = true
+abbrev pub is_beyond : Option Repaired → Bool
+is_beyond (Some r) = false
+is_beyond None = true
 
-abbrev pub word_of : Repaired → ℕ
-word_of (Word v e) = v
-word_of Beyond = 0
+abbrev pub word_of : Option Repaired → ℕ
+word_of (Some r) = r.word
+word_of None = 0
 
-abbrev pub pattern_of : Repaired → ℕ
-pattern_of (Word v e) = e
-pattern_of Beyond = 0
+abbrev pub pattern_of : Option Repaired → ℕ
+pattern_of (Some r) = r.flips
+pattern_of None = 0
 
 -- the remainder modulo 0x537: the multiple with the same five highest coefficients is taken off
 unfoldable pub remainder_of : ℕ → ℕ
@@ -64,9 +75,9 @@ remainder_of w = bit_xor w (encode_of (data_of w))
 abbrev pub mark : ℕ
 mark = 65535
 
-abbrev pub row_for : Repaired → ℕ
-row_for (Word v e) = e
-row_for Beyond = mark
+abbrev pub row_for : Option Repaired → ℕ
+row_for (Some r) = r.flips
+row_for None = mark
 
 -- a row of the table: the flips of the words with the remainder r, of which r is one
 unfoldable pub row_of : ℕ → ℕ
@@ -80,5 +91,5 @@ unfoldable pub syndromes : List ℕ
 syndromes = tabulate table_rows row_of
 
 -- what a row makes of a word: nothing where it is marked, else the word with the row's flips undone, and these flips
-abbrev pub by_row : ℕ → ℕ → Repaired
-by_row w e = cond (eqb e mark) Beyond (Word (bit_xor w e) e)
+abbrev pub by_row : ℕ → ℕ → Option Repaired
+by_row w e = cond (eqb e mark) beyond (found (bit_xor w e) e)

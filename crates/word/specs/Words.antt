@@ -23,6 +23,10 @@ product (suc k) a b = bit_xor (a % 2 * b) (product k (a / 2) (b * 2))
 abbrev pub generator : ℕ
 generator = 0x537
 
+-- the sum of those of five words that the bits of n name
+abbrev pub combined : ℕ → ℕ → ℕ → ℕ → ℕ → ℕ → ℕ
+combined n a b c d e = bit_xor (bit_xor (bit_xor (bit_xor (n % 2 * a) (n / 2 % 2 * b)) (n / 4 % 2 * c)) (n / 8 % 2 * d)) (n / 16 % 2 * e)
+
 -- its multiple with the multiplier q, which has five coefficients: `all_multiples` shows that those of degree below 15 are these
 unfoldable pub multiple_of : ℕ → ℕ
 multiple_of q = product 5 q generator

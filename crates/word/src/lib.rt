@@ -2,12 +2,12 @@
 #![tactic(auto)]
 
 ghost use Rattle.std.specs.Prelude.{◌≡◌, ◌<◌};
-ghost use Rattle.word.specs.Words.{word_limit, valid_count, multiple_of, encode_of};
-ghost use Rattle.word.specs.Repairs.{remainder_of, repair_of, syndromes};
+ghost use Rattle.word.specs.Words.{word_limit, valid_count, combined, multiple_of, encode_of};
+ghost use Rattle.word.specs.Repairs.{remainder_of, repair_of};
 
 pub mod table;
 
-use table::{MARK, TABLE_ROWS};
+use table::{MARK, Syndromes};
 
 // Numbers below it are words.
 pub const WORD_LIMIT: u16 = 32768;
@@ -23,20 +23,23 @@ pub const RADIUS: u32 = 3;
 
 // What repair makes of a number: the valid word within three flips of it, and the flips: bit i is set where position i was flipped.
 #[derive(Clone, Copy)]
-pub enum Repaired {
-    Word { word: u16, flips: u16 },
-    Beyond,
+pub struct Repaired {
+    pub word: u16,
+    pub flips: u16,
+}
+
+// The sum of those of five words that the five lowest bits of n name.
+fn combined(n: u16, a: u16, b: u16, c: u16, d: u16, e: u16) -> u16
+    ensures { result ≡ combined n a b c d e }
+{
+    (n % 2 * a) ^ (n / 2 % 2 * b) ^ (n / 4 % 2 * c) ^ (n / 8 % 2 * d) ^ (n / 16 % 2 * e)
 }
 
 // The multiple of 0x537 with the multiplier q: 0x537 times x^k for each coefficient k of q, of which five count.
 fn multiple(q: u16) -> u16
     ensures { result ≡ multiple_of q }
 {
-    (q % 2 * 0x537)
-        ^ (q / 2 % 2 * 0xA6E)
-        ^ (q / 4 % 2 * 0x14DC)
-        ^ (q / 8 % 2 * 0x29B8)
-        ^ (q / 16 % 2 * 0x5370)
+    combined(q, 0x537, 0xA6E, 0x14DC, 0x29B8, 0x5370)
 }
 
 // The valid word of five data bits: the sum of the valid words of the single bits.
@@ -44,32 +47,24 @@ pub fn encode(d: u16) -> u16
     requires { d < valid_count }
     ensures { result ≡ encode_of d }
 {
-    (d % 2 * 0x537)
-        ^ (d / 2 % 2 * 0xA6E)
-        ^ (d / 4 % 2 * 0x11EB)
-        ^ (d / 8 % 2 * 0x23D6)
-        ^ (d / 16 % 2 * 0x429B)
+    combined(d, 0x537, 0xA6E, 0x11EB, 0x23D6, 0x429B)
 }
 
 // The plain search: the 32 valid words one after the other, up to the first within three.
-pub fn search(w: u16) -> Repaired
+pub fn search(w: u16) -> Option<Repaired>
     ensures { result ≡ repair_of w }
 {
     if WORD_LIMIT <= w {
-        return Repaired::Beyond;
+        return None;
     }
-    let mut found = Repaired::Beyond;
-    let mut q: u16 = 0;
-    while q < VALID_COUNT {
+    for q in 0..VALID_COUNT {
         let v = multiple(q);
         let flips = w ^ v;
         if u16::count_ones(flips) <= RADIUS {
-            found = Repaired::Word { word: v, flips };
-            break;
+            return Some(Repaired { word: v, flips });
         }
-        q += 1;
     }
-    found
+    None
 }
 
 // The remainder of a word modulo 0x537, which names its row in the table.
@@ -80,28 +75,27 @@ fn remainder(w: u16) -> u16
     w ^ encode(w / DATA_BIT)
 }
 
-// Repair by a lent copy of the table: what a caller with many words copies once.
-pub fn repair_in(table: &[u16; TABLE_ROWS], w: u16) -> Repaired
-    requires { table.now ≡ syndromes }
+// Repair by a lent table: what a caller with many words makes once.
+pub fn repair_in(table: &Syndromes, w: u16) -> Option<Repaired>
     ensures { result ≡ repair_of w }
 {
     if WORD_LIMIT <= w {
-        return Repaired::Beyond;
+        return None;
     }
-    let flips = table::row_in(table, remainder(w));
+    let flips = table.row(remainder(w));
     if flips == MARK {
-        return Repaired::Beyond;
+        return None;
     }
-    Repaired::Word {
+    Some(Repaired {
         word: w ^ flips,
         flips,
-    }
+    })
 }
 
-// Repair of one word. The constant table is stored anew at each use, so it is copied once and lent.
-pub fn repair(w: u16) -> Repaired
+// Repair of one word.
+pub fn repair(w: u16) -> Option<Repaired>
     ensures { result ≡ repair_of w }
 {
-    let copy = table::whole();
-    repair_in(&copy, w)
+    let table = Syndromes::new();
+    repair_in(&table, w)
 }

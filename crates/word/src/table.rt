@@ -5,23 +5,29 @@ ghost use Rattle.word.specs.Repairs.{row_of, table_rows, syndromes};
 // The rows: one for each remainder.
 pub const TABLE_ROWS: usize = 1024;
 
-// What a row holds for a remainder whose words are beyond repair.
+// What a row holds for a remainder whose words are beyond repair: the paper's table is of numbers, of which this is the mark.
 pub const MARK: u16 = 65535;
 
-// The whole table: copy it once, and lend the copy.
-pub fn whole() -> [u16; TABLE_ROWS]
-    ensures { result ≡ syndromes }
-{
-    SYNDROMES
+// The syndrome table, which is large: made once, and lent.
+#[derive(Clone, Copy)]
+pub struct Syndromes {
+    rows: [u16; TABLE_ROWS],
+    ghost exact: { rows ≡ syndromes },
 }
 
-// The row of a remainder in a lent copy.
-pub fn row_in(table: &[u16; TABLE_ROWS], r: u16) -> u16
-    requires table_value { table.now ≡ syndromes }
-    requires r_lt_table_rows { r < table_rows }
-    ensures { result ≡ row_of r }
-{
-    table[r as usize]
+impl Syndromes {
+    // The table: the constant, which is stored anew at each use, copied once.
+    pub fn new() -> Syndromes {
+        Syndromes { rows: SYNDROMES }
+    }
+
+    // The row of a remainder.
+    pub fn row(&self, r: u16) -> u16
+        requires { r < table_rows }
+        ensures { result ≡ row_of r }
+    {
+        self.rows[r as usize]
+    }
 }
 
 // By the remainder: the flips as a number with at most three ones, or the mark, 65535.

@@ -12,7 +12,7 @@ use lib.ListN.{get_or, get_or-map, get_or-eq_default}
 use borrow.Author.Tests.{lt-ltb, le-ltb}
 use Rattle.base.specs.declared.Edition.{Edition}
 use Rattle.base.specs.declared.Edition.TheVariants.{Flown, Corrected}
-use Rattle.base.specs.declared.Written.TheVariants.{Done}
+use Rattle.base.specs.Written.{done}
 use Rattle.base.specs.Lists.{lowest}
 use Rattle.base.proofs.Tests.{lt_or_ge}
 use Rattle.base.proofs.Lowest.{Lowest, lowest_is, lowest_only, every_below}
@@ -71,7 +71,7 @@ same_list : (l : List ℕ) → ((k : ℕ) → get_or l k 0 ≤ 255) → map capp
 same_list [] small = refl
 same_list (n ∷ l) small = ap₂ ◌∷◌ (sym (within n (small 0))) (same_list l (λ k. small (suc k)))
 
-pub written_numbers : (edition : Edition) (f : Fields) (payload before after : List ℕ) → RecordWritten edition (capped_fields f) payload before Done after → capped_fields f ≡ f
+pub written_numbers : (edition : Edition) (f : Fields) (payload before after : List ℕ) → RecordWritten edition (capped_fields f) payload before done after → capped_fields f ≡ f
 written_numbers edition f payload before after so =
     let ranges : field_count ≤ first_over edition (values_of f) = rw (capped_over edition (values_of f)) at (recorded edition (capped_fields f) payload before after so).writable.ranges in
     ap fields_from

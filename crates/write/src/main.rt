@@ -3,12 +3,11 @@
 #![tactic(auto)]
 
 ghost use Rattle.std.specs.Prelude.{◌≡◌, ◌<◌, length};
-ghost use Rattle.header.specs.Fields.{fields_from};
 ghost use Rattle.write.specs.Bytes.{capped_of};
 
-use base::{Edition, Refusal, Written};
+use base::{Edition, Refusal};
 use header::{FIELD_COUNT, Fields};
-use options::{Parsed, Word, number};
+use options::number;
 use record::PAYLOAD_START;
 use record_writer::{LONGEST_RECORD, write_record};
 use std::io::Write;
@@ -33,52 +32,13 @@ fn capped(n: u32) -> u8
     n as u8
 }
 
-// What the words say of the fields; `wrong` where one of them is no number.
-#[derive(Clone, Copy)]
-struct Said {
-    values: [u8; FIELD_COUNT],
-    wrong: bool,
-}
-
-fn read_words(rt: HostRuntime) -> Said {
+// What the words say of the fields; none where one of them is no number.
+fn read_words(rt: HostRuntime) -> Option<[u8; FIELD_COUNT]> {
     let mut values = [0u8; FIELD_COUNT];
-    let mut k = 0;
-    while k < FIELD_COUNT {
-        let Parsed::Number(n) = number(rt, FIRST_NUMBER + k) else {
-            return Said {
-                values,
-                wrong: true,
-            };
-        };
-        values[k] = capped(n);
-        k += 1;
+    for k in 0..FIELD_COUNT {
+        values[k] = capped(number(rt, FIRST_NUMBER + k)?);
     }
-    Said {
-        values,
-        wrong: false,
-    }
-}
-
-// Fields 0 to 13 by their names.
-fn fields_of(values: [u8; FIELD_COUNT]) -> Fields
-    ensures { result ≡ fields_from values }
-{
-    Fields {
-        src_id: values[0],
-        dst_id: values[1],
-        fr_cnt_tx: values[2],
-        fr_cnt_rx: values[3],
-        snr: values[4],
-        ai_type_src: values[5],
-        ai_type_dst: values[6],
-        dfc_id: values[7],
-        caller: values[8],
-        arq: values[9],
-        pdu_type_id: values[10],
-        bch_rq: values[11],
-        hailing: values[12],
-        ud_fl1: values[13],
-    }
+    Some(values)
 }
 
 // Tells a refusal. Where that fails, nobody is left to be told.
@@ -94,11 +54,11 @@ fn write_payload(rt: HostRuntime, edition: Edition, fields: Fields, payload: &[u
     let mut out = [0u8; LONGEST_RECORD];
     let answer = write_record(edition, fields, payload, &mut out);
     match answer {
-        Written::Done => {
+        Ok(()) => {
             let end = PAYLOAD_START + payload.len();
             write(rt, &out[..end]);
         }
-        Written::Refused(why) => {
+        Err(why) => {
             tell(rt, why);
         }
     }
@@ -107,12 +67,8 @@ fn write_payload(rt: HostRuntime, edition: Edition, fields: Fields, payload: &[u
 // Tells why a payload of this size is refused, of which the part is over 1,023 already.
 fn refuse(rt: HostRuntime, edition: Edition, fields: Fields, part: &[u8], size: usize) {
     let mut out = [0u8; LONGEST_RECORD];
-    let answer = write_record(edition, fields, part, &mut out);
-    match answer {
-        Written::Done => {}
-        Written::Refused(why) => {
-            tell(rt, record_writer::of_whole(why, size));
-        }
+    if let Err(why) = write_record(edition, fields, part, &mut out) {
+        tell(rt, record_writer::of_whole(why, size));
     }
 }
 
@@ -157,19 +113,16 @@ fn tell_words(rt: HostRuntime) {
 }
 
 fn run(rt: HostRuntime, edition: Edition) {
-    let said = read_words(rt);
-    if said.wrong {
+    let Some(values) = read_words(rt) else {
         tell_words(rt);
         return;
-    }
-    let values = said.values;
-    write_input(rt, edition, fields_of(values));
+    };
+    write_input(rt, edition, Fields::from_values(values));
 }
 
 fn main(rt: HostRuntime) {
-    match options::word_at(rt, 1) {
-        Word::SaysFlown => run(rt, Edition::Flown),
-        Word::SaysCorrected => run(rt, Edition::Corrected),
-        Word::Strict | Word::NamesEdition | Word::Other => tell_words(rt),
+    match options::word_at(rt, 1).edition() {
+        Some(edition) => run(rt, edition),
+        None => tell_words(rt),
     }
 }

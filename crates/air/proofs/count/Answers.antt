@@ -2,11 +2,7 @@
 -- Assumes nothing.
 use borrow.Author.Rules.{rules}
 use Rattle.air.proofs.MostFlips.{count_is}
-use Rattle.air.proofs.CountingFlips.{ones_fits}
 use Rattle.air.proofs.count.Goals as goal
-
-pub overflow_cast-result : goal.overflow_cast-result
-overflow_cast-result c = search (rules, ones_fits)
 
 pub returns : goal.returns
 returns c = search (rules, count_is)

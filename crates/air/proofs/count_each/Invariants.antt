@@ -1,6 +1,5 @@
 -- `air::count_each` meets its contract. Invariant: the flips of the first j lanes are counted.
 -- Assumes nothing.
-use Prim.Native.Nat.{◌-◌}
 use lib.ListN.{get_or}
 use Rattle.base.proofs.Fill.{Filled}
 use Rattle.word.specs.Words.{flip_count}
@@ -9,6 +8,3 @@ use Rattle.air.proofs.count_each.Given as goal
 
 abbrev pub invariant-loop-j : goal.invariant-loop-j
 invariant-loop-j l = Filled (λ k. flip_count (get_or l.lanes k 0)) lane_count l.initial.counts l.j l.counts
-
-abbrev pub decreases-loop-j : goal.decreases-loop-j
-decreases-loop-j l = lane_count - l.j

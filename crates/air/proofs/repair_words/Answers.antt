@@ -6,8 +6,8 @@ use Rattle.air.proofs.repair_words.Goals as goal
 pub loop-j-init : goal.loop-j-init
 loop-j-init c = search (rules, repairs_start)
 
-pub returns-in-Beyond : goal.returns-in-Beyond
-returns-in-Beyond c = search (rules, repairs_stop)
+pub returns-in_default : goal.returns-in_default
+returns-in_default c = search (rules, repairs_stop)
 
 pub loop-j-preserved : goal.loop-j-preserved
 loop-j-preserved c = search (rules, repairs_go_on)

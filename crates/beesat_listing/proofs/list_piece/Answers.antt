@@ -2,7 +2,7 @@
 -- Assumes nothing.
 use borrow.Author.Rules.{rules}
 use Rattle.text.proofs.Sizes.{part_size}
-use Rattle.walk.proofs.Keeping.{part_fits, left_inside, left_room}
+use Rattle.walk.proofs.Keeping.{part_fits, left_inside}
 use Rattle.beesat_listing.proofs.Streaming.{frame_sound}
 use Rattle.beesat_listing.proofs.Keeping.{part_few}
 use Rattle.beesat_listing.proofs.list_piece.Goals as goal
@@ -13,11 +13,8 @@ slice_bounds-list_frames-end-2 c = search (rules, part_size)
 pub list_frames-listed-requires : goal.list_frames-listed-requires
 list_frames-listed-requires c = search (rules, part_few, part_fits)
 
-pub overflow_sub-end : goal.overflow_sub-end
-overflow_sub-end c = search (rules, left_inside, frame_sound)
-
-pub keep-requires : goal.keep-requires
-keep-requires c = search (rules, left_room, frame_sound)
+pub keep-requires-clause-left_le_end : goal.keep-requires-clause-left_le_end
+keep-requires-clause-left_le_end c = search (rules, left_inside, frame_sound)
 
 pub returns : goal.returns
 returns c = search (rules, left_inside, frame_sound)

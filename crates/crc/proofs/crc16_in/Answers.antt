@@ -4,11 +4,11 @@ use Rattle.crc.specs.Crc.{crc16_of}
 use Rattle.crc.proofs.Loop.{up_bytes}
 use Rattle.crc.proofs.crc16_in.Goals as goal
 
-pub loop-i-init : goal.loop-i-init
-loop-i-init c = search (rules, up_starts)
+pub loop-byte-init : goal.loop-byte-init
+loop-byte-init c = search (rules, up_starts)
 
-pub loop-i-preserved : goal.loop-i-preserved
-loop-i-preserved c = search (rules, up_goes_on)
+pub loop-byte-preserved : goal.loop-byte-preserved
+loop-byte-preserved c = search (rules, up_goes_on)
 
 pub returns : goal.returns
 unfolding crc16_of

@@ -4,8 +4,8 @@ use borrow.Author.Rules.{rules}
 use Rattle.crc.proofs.TwoNumbers.{counted_lt, counted_in}
 use Rattle.crc.proofs.crc5.Goals as goal
 
-pub crc5_over-requires : goal.crc5_over-requires
-crc5_over-requires c = search (rules, counted_lt)
+pub invariant_of-crc5_over : goal.invariant_of-crc5_over
+invariant_of-crc5_over c = search (rules, counted_lt)
 
 pub returns : goal.returns
 returns c = search (rules, counted_in)

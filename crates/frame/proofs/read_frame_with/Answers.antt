@@ -4,8 +4,8 @@ use borrow.Author.Rules.{rules}
 use Rattle.frame.proofs.Payloads.{frame_refused, frame_left}
 use Rattle.frame.proofs.read_frame_with.Goals as goal
 
-pub returns-in-Refused : goal.returns-in-Refused
-returns-in-Refused c = search (rules, frame_refused)
+pub returns-in-Err : goal.returns-in-Err
+returns-in-Err c = search (rules, frame_refused)
 
-pub returns-in-Accepted : goal.returns-in-Accepted
-returns-in-Accepted c = search (rules, frame_left)
+pub returns-in-Ok : goal.returns-in-Ok
+returns-in-Ok c = search (rules, frame_left)

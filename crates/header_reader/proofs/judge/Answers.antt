@@ -1,11 +1,8 @@
 -- `judge` meets its contract: the tests passed say which row is the first that applies.
 -- Assumes nothing.
 use borrow.Author.Rules.{rules}
-use Rattle.header_reader.proofs.Judging.{gives_21, gives_4, gives_5, gives_24, gives_6, reads}
+use Rattle.header_reader.proofs.Judging.{gives_4, gives_5, gives_24, gives_6, reads}
 use Rattle.header_reader.proofs.judge.Goals as goal
-
-pub returns-then-rules-flips : goal.returns-then-rules-flips
-returns-then-rules-flips c = search (rules, gives_21)
 
 pub returns-then-crc5-header : goal.returns-then-crc5-header
 returns-then-crc5-header c = search (rules, gives_4)

@@ -1,11 +1,7 @@
 -- `header_writer::first_above` meets its contract. Invariant: the fields before k are in range.
 -- Assumes nothing.
-use Prim.Native.Nat.{◌-◌}
 use Rattle.header.proofs.Ranges.{Checked}
 use Rattle.header_writer.proofs.first_above.Given as goal
 
 abbrev pub invariant-loop-k : goal.invariant-loop-k
 invariant-loop-k l = Checked l.edition l.values l.k
-
-abbrev pub decreases-loop-k : goal.decreases-loop-k
-decreases-loop-k l = 14 - l.k

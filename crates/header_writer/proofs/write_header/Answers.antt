@@ -1,7 +1,7 @@
 -- `header_writer::write_header` meets its contract: the tests passed say which row is the first that applies.
 -- Assumes nothing.
 use borrow.Author.Rules.{rules}
-use Rattle.header.proofs.Refusing.{gives_13, gives_14, gives_15, ranges, writes}
+use Rattle.header.proofs.Refusing.{gives_13, gives_14, gives_15, writes}
 use Rattle.header_writer.proofs.write_header.Goals as goal
 
 pub returns-then-room-lt-AIR_BITS : goal.returns-then-room-lt-AIR_BITS
@@ -12,9 +12,6 @@ returns-then-over-lt-FIELD_COUNT c = search (rules, gives_14)
 
 pub returns-then-size-gt-LONGEST_PAYLOAD : goal.returns-then-size-gt-LONGEST_PAYLOAD
 returns-then-size-gt-LONGEST_PAYLOAD c = search (rules, gives_15)
-
-pub put_header-requires : goal.put_header-requires
-put_header-requires c = search (rules, ranges)
 
 pub returns : goal.returns
 returns c = search (rules, writes)

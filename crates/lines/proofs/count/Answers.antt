@@ -4,8 +4,8 @@ use borrow.Author.Rules.{rules}
 use Rattle.lines.proofs.Counting.{counts_accepted, counts_refused}
 use Rattle.lines.proofs.count.Goals as goal
 
-pub returns-in-Accepted : goal.returns-in-Accepted
-returns-in-Accepted c = search (rules, counts_accepted)
+pub returns-in-Ok : goal.returns-in-Ok
+returns-in-Ok c = search (rules, counts_accepted)
 
-pub returns-in-Refused : goal.returns-in-Refused
-returns-in-Refused c = search (rules, counts_refused)
+pub returns-in-Err : goal.returns-in-Err
+returns-in-Err c = search (rules, counts_refused)

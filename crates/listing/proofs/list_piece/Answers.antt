@@ -2,7 +2,7 @@
 -- Assumes nothing.
 use borrow.Author.Rules.{rules}
 use Rattle.text.proofs.Sizes.{part_size}
-use Rattle.walk.proofs.Keeping.{left_inside, left_room}
+use Rattle.walk.proofs.Keeping.{left_inside}
 use Rattle.listing.proofs.Streaming.{list_sound}
 use Rattle.listing.proofs.Scanning.{part_fits}
 use Rattle.listing.proofs.list_piece.Goals as goal
@@ -13,11 +13,8 @@ slice_bounds-list_records-end-2 c = search (rules, part_size)
 pub list_records-listed-requires : goal.list_records-listed-requires
 list_records-listed-requires c = search (rules, part_fits)
 
-pub overflow_sub-end : goal.overflow_sub-end
-overflow_sub-end c = search (rules, left_inside, list_sound)
-
-pub keep-requires : goal.keep-requires
-keep-requires c = search (rules, left_room, list_sound)
+pub keep-requires-clause-left_le_end : goal.keep-requires-clause-left_le_end
+keep-requires-clause-left_le_end c = search (rules, left_inside, list_sound)
 
 pub returns : goal.returns
 returns c = search (rules, left_inside, list_sound)

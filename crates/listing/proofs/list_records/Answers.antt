@@ -1,34 +1,30 @@
 use borrow.Author.Rules.{rules}
-use Rattle.record.proofs.Scanning.{stops_long, stops_short, stops_full, all_there, has_room, size_fits, place_fits, less, goes_on}
-use Rattle.listing.proofs.Scanning.{starts, is_full, has_place, line_small}
+use Rattle.record.proofs.Splitting.{all_there}
+use Rattle.record.proofs.Scanning.{starts, stops_long, stops_short, stops_full, has_room, less, goes_on}
+use Rattle.listing.specs.Listing.{list_reading}
+use Rattle.listing.proofs.Scanning.{is_full, has_place, line_small}
 use Rattle.listing.proofs.list_records.Goals as goal
 
 pub loop-len-init : goal.loop-len-init
-loop-len-init c = search (rules, starts)
-
-pub take_record-taken-requires-clause-len_in_bounds : goal.take_record-taken-requires-clause-len_in_bounds
-take_record-taken-requires-clause-len_in_bounds c = search (rules, all_there, has_place)
+loop-len-init c = search (rules, starts (list_reading c.args.rules))
 
 pub take_record-taken-requires-clause-line_room_in_bounds : goal.take_record-taken-requires-clause-line_room_in_bounds
-take_record-taken-requires-clause-line_room_in_bounds c = search (rules, has_room, has_place, line_small)
-
-pub overflow_add-used : goal.overflow_add-used
-overflow_add-used c = search (rules, size_fits, has_place)
-
-pub overflow_add-used-then-heard-lt-FULL : goal.overflow_add-used-then-heard-lt-FULL
-overflow_add-used-then-heard-lt-FULL c = search (rules, place_fits, has_place)
+take_record-taken-requires-clause-line_room_in_bounds c = search (rules, has_room (list_reading c.args.rules) c.loop-len.invariant c.in-Record.ensures c.split-parts.ensures, has_place, line_small)
 
 pub loop-len-smaller : goal.loop-len-smaller
-loop-len-smaller c = search (rules, less, has_place)
+loop-len-smaller c = search (rules, less (list_reading c.args.rules) c.loop-len.invariant c.in-Record.ensures c.split-parts.ensures, has_place)
 
 pub loop-len-preserved : goal.loop-len-preserved
-loop-len-preserved c = search (rules, goes_on, has_place, line_small)
+loop-len-preserved c = search (rules, goes_on (list_reading c.args.rules) c.loop-len.invariant c.in-Record.ensures c.split-parts.ensures, has_place, line_small)
 
-pub returns-else-heard-lt-FULL : goal.returns-else-heard-lt-FULL
-returns-else-heard-lt-FULL c = search (rules, stops_full, is_full)
+pub returns-then-heard-ge-FULL : goal.returns-then-heard-ge-FULL
+returns-then-heard-ge-FULL c = search (rules, stops_full (list_reading c.args.rules) c.loop-len.invariant c.in-Record.ensures, is_full)
 
 pub returns-in-TooLong : goal.returns-in-TooLong
-returns-in-TooLong c = search (rules, stops_long)
+returns-in-TooLong c = stops_long (list_reading c.args.rules) c.loop-len.invariant c.in-TooLong.ensures
 
 pub returns-in-Short : goal.returns-in-Short
-returns-in-Short c = search (rules, stops_short)
+returns-in-Short c = stops_short (list_reading c.args.rules) c.loop-len.invariant c.in-Short.ensures
+
+pub split-parts-requires : goal.split-parts-requires
+split-parts-requires c = all_there c.loop-len.rest.now c.in-Record.ensures

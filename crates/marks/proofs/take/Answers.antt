@@ -7,8 +7,8 @@ use Rattle.marks.proofs.take.Goals as goal
 pub more-requires : goal.more-requires
 more-requires c = search (rules, room)
 
-pub returns-in-Refused : goal.returns-in-Refused
-returns-in-Refused c = search (rules, stays)
+pub returns-in-Err : goal.returns-in-Err
+returns-in-Err c = search (rules, stays)
 
-pub returns-in-Accepted : goal.returns-in-Accepted
-returns-in-Accepted c = search (rules, moves_on)
+pub returns-in-Ok : goal.returns-in-Ok
+returns-in-Ok c = search (rules, moves_on)

@@ -1,34 +1,34 @@
--- `digit_value` meets its contract: the tests passed say what the letter is.
+-- `digit_value` meets its contract: the cases say what the letter is.
 -- Assumes nothing.
 use Rattle.std.proofs.Common.{rules}
 use Rattle.base.proofs.Tests.{tests}
 use Rattle.packing.specs.Digits.{digit_value}
 use Rattle.packing.proofs.digit_value.Goals as goal
 
-pub returns-then-letter-lt48 : goal.returns-then-letter-lt48
+pub returns-in-48-to-57 : goal.returns-in-48-to-57
 unfolding digit_value
-returns-then-letter-lt48 c = search (rules, tests)
+returns-in-48-to-57 c = search (rules, tests)
 
-pub returns-then-letter-le57 : goal.returns-then-letter-le57
+pub returns-in-65-to-70 : goal.returns-in-65-to-70
 unfolding digit_value
-returns-then-letter-le57 c = search (rules, tests)
+returns-in-65-to-70 c = search (rules, tests)
 
-pub returns-then-letter-lt65 : goal.returns-then-letter-lt65
+pub returns-in-97-to-102 : goal.returns-in-97-to-102
 unfolding digit_value
-returns-then-letter-lt65 c = search (rules, tests)
+returns-in-97-to-102 c = search (rules, tests)
 
-pub returns-then-letter-le70 : goal.returns-then-letter-le70
+pub returns-in_default : goal.returns-in_default
 unfolding digit_value
-returns-then-letter-le70 c = search (rules, tests)
+returns-in_default c = search (rules, tests)
 
-pub returns-then-letter-lt97 : goal.returns-then-letter-lt97
+pub returns-in_default-2 : goal.returns-in_default-2
 unfolding digit_value
-returns-then-letter-lt97 c = search (rules, tests)
+returns-in_default-2 c = search (rules, tests)
 
-pub returns-then-letter-le102 : goal.returns-then-letter-le102
+pub returns-in_default-3 : goal.returns-in_default-3
 unfolding digit_value
-returns-then-letter-le102 c = search (rules, tests)
+returns-in_default-3 c = search (rules, tests)
 
-pub returns : goal.returns
+pub returns-in_default-4 : goal.returns-in_default-4
 unfolding digit_value
-returns c = search (rules, tests)
+returns-in_default-4 c = search (rules, tests)

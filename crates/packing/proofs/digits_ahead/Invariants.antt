@@ -1,11 +1,7 @@
 -- `digits_ahead` meets its contract. Invariant: the letters before i are digits.
 -- Assumes nothing.
-use Rattle.std.proofs.Common.{◌-◌, length}
 use Rattle.packing.proofs.Digits.{Ahead}
 use Rattle.packing.proofs.digits_ahead.Given as goal
 
 abbrev pub invariant-loop-i : goal.invariant-loop-i
 invariant-loop-i l = Ahead l.base l.letters l.i
-
-abbrev pub decreases-loop-i : goal.decreases-loop-i
-decreases-loop-i l = length l.letters - l.i

@@ -1,11 +1,7 @@
 -- `find` meets its contract. Invariant: none of the letters before i is the one.
 -- Assumes nothing.
-use Rattle.std.proofs.Common.{◌-◌, length}
 use Rattle.packing.proofs.Digits.{Finding}
 use Rattle.packing.proofs.find.Given as goal
 
 abbrev pub invariant-loop-i : goal.invariant-loop-i
 invariant-loop-i l = Finding l.letters l.mark l.i
-
-abbrev pub decreases-loop-i : goal.decreases-loop-i
-decreases-loop-i l = length l.letters - l.i

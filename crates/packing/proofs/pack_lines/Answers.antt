@@ -1,22 +1,25 @@
 use Rattle.std.proofs.Common.{rules}
 use Rattle.text.proofs.Sizes.{part_size}
-use Rattle.packing.proofs.Scanning.{starts, stops_long, stops_open, stops_wrong, line_inside, line_short, has_room, size_fits, place_fits, less, goes_on}
+use Rattle.packing.proofs.Scanning.{starts, stops_long, stops_open, stops_wrong, line_inside, end_inside, size_fits, line_short, has_room, less, goes_on}
 use Rattle.packing.proofs.pack_lines.Goals as goal
 
 pub loop-end-init : goal.loop-end-init
 loop-end-init c = search (rules, starts)
 
 pub slice_bounds-pack_line-end : goal.slice_bounds-pack_line-end
-slice_bounds-pack_line-end c = search (rules, part_size, line_inside)
+slice_bounds-pack_line-end c = search (rules, part_size, end_inside)
 
 pub pack_line-packed-requires : goal.pack_line-packed-requires
 pack_line-packed-requires c = search (rules, line_short, has_room)
 
-pub overflow_add-used : goal.overflow_add-used
-overflow_add-used c = search (rules, size_fits)
+pub overflow_add-rest : goal.overflow_add-rest
+overflow_add-rest c = search (rules, size_fits)
 
-pub overflow_add-used-else-is_wrong : goal.overflow_add-used-else-is_wrong
-overflow_add-used-else-is_wrong c = search (rules, place_fits)
+pub slice_bounds-rest-count : goal.slice_bounds-rest-count
+slice_bounds-rest-count c = search (rules, line_inside)
+
+pub slice_bounds-rest-start : goal.slice_bounds-rest-start
+slice_bounds-rest-start c = search (rules, line_inside)
 
 pub loop-end-smaller : goal.loop-end-smaller
 loop-end-smaller c = search (rules, less)

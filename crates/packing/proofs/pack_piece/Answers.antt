@@ -2,7 +2,7 @@
 -- Assumes nothing.
 use Rattle.std.proofs.Common.{rules}
 use Rattle.text.proofs.Sizes.{part_size}
-use Rattle.walk.proofs.Keeping.{part_fits, left_inside, left_room}
+use Rattle.walk.proofs.Keeping.{part_fits, left_inside}
 use Rattle.packing.proofs.Streaming.{pack_sound}
 use Rattle.packing.proofs.pack_piece.Goals as goal
 
@@ -12,11 +12,8 @@ slice_bounds-pack_lines-end-2 c = search (rules, part_size)
 pub pack_lines-packed-requires : goal.pack_lines-packed-requires
 pack_lines-packed-requires c = search (rules, part_fits)
 
-pub overflow_sub-end : goal.overflow_sub-end
-overflow_sub-end c = search (rules, left_inside, pack_sound)
-
-pub keep-requires : goal.keep-requires
-keep-requires c = search (rules, left_room, pack_sound)
+pub keep-requires-clause-left_le_end : goal.keep-requires-clause-left_le_end
+keep-requires-clause-left_le_end c = search (rules, left_inside, pack_sound)
 
 pub returns : goal.returns
 returns c = search (rules, left_inside, pack_sound)

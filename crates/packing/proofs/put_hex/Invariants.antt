@@ -1,12 +1,9 @@
--- `put_hex` meets its contract. Invariant: the bytes of the first i digits are put.
+-- `put_hex` meets its contract. Invariant: the bytes of the first k pairs of digits are put.
 -- Assumes nothing.
-use Rattle.std.proofs.Common.{◌-◌, length, drop}
+use Rattle.std.proofs.Common.{◌*◌, drop}
 use Rattle.packing.specs.Digits.{AreDigits, bytes_in}
 use Rattle.packing.proofs.Digits.{Bytes}
 use Rattle.packing.proofs.put_hex.Given as goal
 
-abbrev pub invariant-loop-i : goal.invariant-loop-i
-invariant-loop-i l = Bytes l.initial.out l.at (bytes_in l.letters) (bytes_in (drop l.i l.letters)) l.letters l.out l.to l.i × AreDigits 16 l.letters
-
-abbrev pub decreases-loop-i : goal.decreases-loop-i
-decreases-loop-i l = length l.letters - l.i
+abbrev pub invariant-loop-k : goal.invariant-loop-k
+invariant-loop-k l = Bytes l.initial.out l.at (bytes_in l.letters) (bytes_in (drop (2 * l.k) l.letters)) l.letters l.out l.to (2 * l.k) × AreDigits 16 l.letters

@@ -8,8 +8,8 @@ loop-out-init c = search (rules, tell_starts)
 pub overflow_sub-out : goal.overflow_sub-out
 overflow_sub-out c = search (rules, tell_inside)
 
-pub returns-then-not-step : goal.returns-then-not-step
-returns-then-not-step c = search (rules, tell_over)
+pub returns-in_default : goal.returns-in_default
+returns-in_default c = search (rules, tell_over)
 
 pub put_mark-line-requires-clause-tally_bound : goal.put_mark-line-requires-clause-tally_bound
 put_mark-line-requires-clause-tally_bound c = search (rules, tell_room)

@@ -1,18 +1,15 @@
 -- `sheet_listing::count_piece` meets its contract: the records of the piece are counted, and what is left goes to the front.
 -- Assumes nothing.
 use borrow.Author.Rules.{rules}
-use Rattle.sheet_listing.proofs.Keeping.{left_inside, left_room}
+use Rattle.sheet_listing.proofs.Keeping.{left_inside}
 use Rattle.text.proofs.Sizes.{part_size}
 use Rattle.sheet_listing.proofs.count_piece.Goals as goal
 
 pub slice_bounds-count_records-end-2 : goal.slice_bounds-count_records-end-2
 slice_bounds-count_records-end-2 c = search (rules, part_size)
 
-pub overflow_sub-end : goal.overflow_sub-end
-overflow_sub-end c = search (rules, left_inside)
-
-pub keep-requires : goal.keep-requires
-keep-requires c = search (rules, left_room)
+pub keep-requires-clause-left_le_end : goal.keep-requires-clause-left_le_end
+keep-requires-clause-left_le_end c = search (rules, left_inside)
 
 pub returns : goal.returns
 returns c = search (rules, left_inside)

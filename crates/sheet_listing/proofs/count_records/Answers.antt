@@ -1,42 +1,38 @@
+use mathlib.Core.Path.{refl}
 use borrow.Author.Rules.{rules}
-use Rattle.sheet_listing.proofs.Walking.{starts, stops_long, stops_short, stops_full, all_there, size_fits, place_fits, less, has_record, record_place, goes_on}
+use Rattle.walk.proofs.Keeping.{scan_passes}
+use Rattle.record.proofs.Splitting.{all_there}
+use Rattle.record.proofs.Scanning.{counts_from, counts_on, stops_long, stops_short, stops_full, less}
+use Rattle.listing.proofs.Scanning.{is_full, has_place}
+use Rattle.sheet_listing.specs.Pieces.{sheet_reading}
+use Rattle.sheet_listing.specs.Promises.{held_totals}
+use Rattle.sheet_listing.proofs.Walking.{walked, has_record, record_place, counted_in}
 use Rattle.sheet_listing.proofs.count_records.Goals as goal
 
 pub loop-len-init : goal.loop-len-init
-loop-len-init c = search (rules, starts)
-
-pub take_record-taken-requires-clause-len_in_bounds : goal.take_record-taken-requires-clause-len_in_bounds
-take_record-taken-requires-clause-len_in_bounds c = search (rules, all_there)
-
-pub overflow_add-used : goal.overflow_add-used
-overflow_add-used c = search (rules, size_fits)
-
-pub overflow_add-used-then-total-lt-FULL : goal.overflow_add-used-then-total-lt-FULL
-overflow_add-used-then-total-lt-FULL c = search (rules, place_fits)
-
-pub offset_bounds-totals-k : goal.offset_bounds-totals-k
-offset_bounds-totals-k c = search (rules, record_place)
+loop-len-init c = counts_from (sheet_reading c.args.rules) (held_totals c.args.start c.args.from) c.args.piece.now
 
 pub bounds-totals-k : goal.bounds-totals-k
 bounds-totals-k c = search (rules, has_record)
 
-pub offset_bounds-totals-k-then-total-lt-FULL : goal.offset_bounds-totals-k-then-total-lt-FULL
-offset_bounds-totals-k-then-total-lt-FULL c = search (rules, record_place)
-
-pub bounds-totals-k-then-total-lt-FULL : goal.bounds-totals-k-then-total-lt-FULL
-bounds-totals-k-then-total-lt-FULL c = search (rules, has_record)
+pub bounds-totals-k-in-Record : goal.bounds-totals-k-in-Record
+bounds-totals-k-in-Record c = search (rules, has_record)
 
 pub loop-len-smaller : goal.loop-len-smaller
-loop-len-smaller c = search (rules, less)
+loop-len-smaller c = search (rules, less (sheet_reading c.args.rules) c.loop-len.invariant c.in-Record.ensures c.split-parts.ensures, has_place)
 
 pub loop-len-preserved : goal.loop-len-preserved
-loop-len-preserved c = search (rules, goes_on)
+loop-len-preserved c =
+    search (rules, counts_on (sheet_reading c.args.rules) c.loop-len.invariant c.in-Record.ensures c.split-parts.ensures, has_place, counted_in)
 
-pub returns-else-total-lt-FULL : goal.returns-else-total-lt-FULL
-returns-else-total-lt-FULL c = search (rules, stops_full)
+pub returns-then-total-ge-FULL : goal.returns-then-total-ge-FULL
+returns-then-total-ge-FULL c = walked (scan_passes (stops_full (sheet_reading c.args.rules) c.loop-len.invariant c.in-Record.ensures (search (rules, is_full))))
 
 pub returns-in-TooLong : goal.returns-in-TooLong
-returns-in-TooLong c = search (rules, stops_long)
+returns-in-TooLong c = walked (scan_passes (stops_long (sheet_reading c.args.rules) c.loop-len.invariant c.in-TooLong.ensures))
 
 pub returns-in-Short : goal.returns-in-Short
-returns-in-Short c = search (rules, stops_short)
+returns-in-Short c = walked (scan_passes (stops_short (sheet_reading c.args.rules) c.loop-len.invariant c.in-Short.ensures))
+
+pub split-parts-requires : goal.split-parts-requires
+split-parts-requires c = all_there c.loop-len.rest.now c.in-Record.ensures

@@ -4,5 +4,5 @@ use borrow.Author.Rules.{rules}
 use Rattle.sheet_listing.proofs.Changing.{accepted_source}
 use Rattle.sheet_listing.proofs.heard_by.Goals as goal
 
-pub returns-in-Accepted : goal.returns-in-Accepted
-returns-in-Accepted c = search (rules, accepted_source)
+pub returns-in-Ok : goal.returns-in-Ok
+returns-in-Ok c = search (rules, accepted_source)

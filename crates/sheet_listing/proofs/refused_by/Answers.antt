@@ -4,5 +4,5 @@ use borrow.Author.Rules.{rules}
 use Rattle.sheet_listing.proofs.Changing.{refused_counts}
 use Rattle.sheet_listing.proofs.refused_by.Goals as goal
 
-pub returns-in-Refused : goal.returns-in-Refused
-returns-in-Refused c = search (rules, refused_counts)
+pub returns-in-Err : goal.returns-in-Err
+returns-in-Err c = search (rules, refused_counts)

@@ -1,15 +1,13 @@
-use Rattle.std.proofs.Common.{rules}
-use Rattle.source.proofs.Counts.{look_starts, look_goes_on, look_stops, look_ends}
+-- `source::slot` meets its contract: the first place of the number, or past the last.
+-- Assumes nothing.
+use Rattle.std.proofs.Common.{ℕ, eqb, ◌∙◌, rules, tests}
+use Rattle.std.proofs.lemmas.Iterator.{YieldsList-from_slice}
+use Rattle.std.proofs.lemmas.Iterator.Search.{position_from_yields_List}
+use Rattle.source.proofs.Counts.{slot_found}
 use Rattle.source.proofs.slot.Goals as goal
 
-pub loop-k-init : goal.loop-k-init
-loop-k-init c = search (rules, look_starts)
-
-pub returns-then-number-k : goal.returns-then-number-k
-returns-then-number-k c = search (rules, look_stops)
-
-pub loop-k-preserved : goal.loop-k-preserved
-loop-k-preserved c = search (rules, look_goes_on)
-
 pub returns : goal.returns
-returns c = search (rules, look_ends)
+returns c =
+    c.unwrap_or.ensures
+    ∙ slot_found c.args.number c.position.result
+    (position_from_yields_List (λ (x : ℕ). eqb c.args.number x) _ _ c.position.result c.position.ensures.ran (YieldsList-from_slice _ c.iter.ensures.rest) (λ x b q k. search (rules, tests)))

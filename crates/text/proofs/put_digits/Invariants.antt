@@ -5,6 +5,3 @@ use Rattle.text.proofs.put_digits.Given as goal
 
 abbrev pub invariant-loop-k : goal.invariant-loop-k
 invariant-loop-k l = Filled l.initial.out l.at l.base l.width l.n l.out l.k l.rest
-
-abbrev pub decreases-loop-k : goal.decreases-loop-k
-decreases-loop-k l = l.k

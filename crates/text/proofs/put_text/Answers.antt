@@ -1,12 +1,8 @@
+-- `put_text` meets its contract.
+-- Assumes nothing.
 use borrow.Author.Rules.{rules}
-use Rattle.text.proofs.Copying.{starts, goes_on, ends}
+use Rattle.text.proofs.Copying.{copied}
 use Rattle.text.proofs.put_text.Goals as goal
 
-pub loop-i-init : goal.loop-i-init
-loop-i-init c = search (rules, starts)
-
-pub loop-i-preserved : goal.loop-i-preserved
-loop-i-preserved c = search (rules, goes_on)
-
 pub returns : goal.returns
-returns c = search (rules, ends)
+returns c = search (rules, copied)

@@ -2,7 +2,7 @@
 -- Assumes nothing.
 use borrow.Author.Rules.{rules}
 use Rattle.text.proofs.Sizes.{part_size}
-use Rattle.walk.proofs.Keeping.{part_fits, left_inside, left_room}
+use Rattle.walk.proofs.Keeping.{part_fits, left_inside}
 use Rattle.unpacking.proofs.Streaming.{line_sound}
 use Rattle.unpacking.proofs.unpack_piece.Goals as goal
 
@@ -12,11 +12,8 @@ slice_bounds-unpack_records-end-2 c = search (rules, part_size)
 pub unpack_records-unpacked-requires : goal.unpack_records-unpacked-requires
 unpack_records-unpacked-requires c = search (rules, part_fits)
 
-pub overflow_sub-end : goal.overflow_sub-end
-overflow_sub-end c = search (rules, left_inside, line_sound)
-
-pub keep-requires : goal.keep-requires
-keep-requires c = search (rules, left_room, line_sound)
+pub keep-requires-clause-left_le_end : goal.keep-requires-clause-left_le_end
+keep-requires-clause-left_le_end c = search (rules, left_inside, line_sound)
 
 pub returns : goal.returns
 returns c = search (rules, left_inside, line_sound)

@@ -1,28 +1,28 @@
+use mathlib.Core.Path.{refl}
 use borrow.Author.Rules.{rules}
-use Rattle.record.proofs.Scanning.{stops_long, stops_short, all_there, has_room, size_fits, place_fits, less, goes_on}
-use Rattle.unpacking.proofs.Scanning.{starts}
+use Rattle.record.proofs.Scanning.{starts, stops_long, stops_short, has_room, less, goes_on}
+use Rattle.record.proofs.Splitting.{all_there, header_size}
+use Rattle.unpacking.specs.Unpacking.{line_reading}
+use Rattle.unpacking.proofs.Scanning.{line_small}
 use Rattle.unpacking.proofs.unpack_records.Goals as goal
 
 pub loop-len-init : goal.loop-len-init
-loop-len-init c = search (rules, starts)
+loop-len-init c = search (rules, starts line_reading)
 
-pub take_record-to-requires : goal.take_record-to-requires
-take_record-to-requires c = search (rules, all_there, has_room)
-
-pub overflow_add-used : goal.overflow_add-used
-overflow_add-used c = search (rules, size_fits)
-
-pub overflow_add-used-in-Record : goal.overflow_add-used-in-Record
-overflow_add-used-in-Record c = search (rules, place_fits)
+pub put_line-to-requires : goal.put_line-to-requires
+put_line-to-requires c = has_room line_reading c.loop-len.invariant c.in-Record.ensures c.split-parts.ensures refl _ (line_small _ _ _ (header_size c.loop-len.rest.now c.in-Record.ensures c.split-parts.ensures) c.split-parts.ensures.payload_size)
 
 pub loop-len-smaller : goal.loop-len-smaller
-loop-len-smaller c = search (rules, less)
+loop-len-smaller c = less line_reading c.loop-len.invariant c.in-Record.ensures c.split-parts.ensures refl
 
 pub loop-len-preserved : goal.loop-len-preserved
-loop-len-preserved c = search (rules, goes_on)
+loop-len-preserved c = search (rules, goes_on line_reading c.loop-len.invariant c.in-Record.ensures c.split-parts.ensures, line_small, header_size c.loop-len.rest.now c.in-Record.ensures c.split-parts.ensures)
 
 pub returns-in-TooLong : goal.returns-in-TooLong
-returns-in-TooLong c = search (rules, stops_long)
+returns-in-TooLong c = stops_long line_reading c.loop-len.invariant c.in-TooLong.ensures
 
 pub returns-in-Short : goal.returns-in-Short
-returns-in-Short c = search (rules, stops_short)
+returns-in-Short c = stops_short line_reading c.loop-len.invariant c.in-Short.ensures
+
+pub split-parts-requires : goal.split-parts-requires
+split-parts-requires c = all_there c.loop-len.rest.now c.in-Record.ensures

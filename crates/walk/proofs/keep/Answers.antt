@@ -1,12 +1,7 @@
-use borrow.Author.Rules.{rules}
-use Rattle.walk.proofs.Moving.{starts, goes_on, ends}
+-- `walk::keep` meets its contract.
+-- Assumes nothing.
+use Rattle.walk.proofs.Moving.{kept_at_front}
 use Rattle.walk.proofs.keep.Goals as goal
 
-pub loop-i-init : goal.loop-i-init
-loop-i-init c = search (rules, starts)
-
-pub loop-i-preserved : goal.loop-i-preserved
-loop-i-preserved c = search (rules, goes_on)
-
 pub returns : goal.returns
-returns c = search (rules, ends)
+returns c = kept_at_front c.args.buf.now c.copy_within.new.self c.args.end c.args.left c.requires.left_le_end c.copy_within.ensures.after

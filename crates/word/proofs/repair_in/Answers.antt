@@ -7,8 +7,8 @@ use Rattle.word.proofs.repair_in.Goals as goal
 pub returns-then-w-ge-WORD_LIMIT : goal.returns-then-w-ge-WORD_LIMIT
 returns-then-w-ge-WORD_LIMIT c = search (rules, repair_above)
 
-pub row_in-flips-requires : goal.row_in-flips-requires
-row_in-flips-requires c = search (rules, row_lt)
+pub row-flips-requires : goal.row-flips-requires
+row-flips-requires c = search (rules, row_lt)
 
 pub returns-then-flips : goal.returns-then-flips
 returns-then-flips c = search (rules, repair_mark)

@@ -20,8 +20,8 @@ loop-q-preserved c =
     let far : 3 < ones (bit_xor turn.args.w c.multiple-v.result) = omega arith in
     search (rules, search_goes_on)
 
-pub returns-after-loop-q : goal.returns-after-loop-q
-returns-after-loop-q c = search (rules, search_ends)
+pub returns : goal.returns
+returns c = search (rules, search_ends)
 
 pub returns-then-flips-le-RADIUS : goal.returns-then-flips-le-RADIUS
 returns-then-flips-le-RADIUS c = search (rules, search_stops)

@@ -1,6 +1,5 @@
--- `read_words` is safe and ends: each word is read once.
+-- `read_words` is safe: there is a value for each field.
 -- Assumes nothing.
-use Prim.Native.Nat.{◌-◌}
 use mathlib.Core.Path.{◌≡◌}
 use lib.ListN.{length}
 use Rattle.header.specs.Fields.{field_count}
@@ -8,6 +7,3 @@ use Rattle.write.proofs.read_words.Given as goal
 
 abbrev pub invariant-loop-k : goal.invariant-loop-k
 invariant-loop-k l = length l.values ≡ field_count
-
-abbrev pub decreases-loop-k : goal.decreases-loop-k
-decreases-loop-k l = field_count - l.k

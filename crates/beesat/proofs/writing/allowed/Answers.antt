@@ -1,19 +1,15 @@
 -- `allowed` meets its contract: the tests passed say which check is the first that applies.
 -- Assumes nothing.
 use borrow.Author.Rules.{rules}
-use Rattle.beesat.proofs.Passed.{good_ready}
 use Rattle.beesat.proofs.Writable.{field_there}
 use Rattle.beesat.proofs.WriteChecks.{write_refused, gives_38, gives_38_idle, gives_29, may_write}
 use Rattle.beesat.proofs.writing.allowed.Goals as goal
 
-pub returns-in-Refused : goal.returns-in-Refused
-returns-in-Refused c = search (rules, write_refused)
+pub returns-in_err-frame : goal.returns-in_err-frame
+returns-in_err-frame c = search (rules, write_refused)
 
 pub returns-then-field-ge-FIELDS : goal.returns-then-field-ge-FIELDS
 returns-then-field-ge-FIELDS c = search (rules, gives_38)
-
-pub is_idle-requires : goal.is_idle-requires
-is_idle-requires c = search (rules, good_ready)
 
 pub returns-then-is_idle : goal.returns-then-is_idle
 returns-then-is_idle c = search (rules, gives_38_idle)

@@ -1,12 +1,9 @@
--- `put_counts` stays within the reply. Invariant: k counts are put.
+-- `put_counts` stays within the reply. Invariant: as many counts are put as were passed.
 -- Assumes nothing.
 use mathlib.Core.Path.{◌≡◌}
-use Prim.Native.Nat.{◌+◌, ◌*◌, ◌-◌, ◌≤◌}
+use Prim.Native.Nat.{◌+◌, ◌*◌, ◌≤◌}
 use Rattle.source.specs.Counts.{refusal_counts}
 use Rattle.sheet_vectors.proofs.sheets.put_counts.Given as goal
 
-abbrev pub invariant-loop-k : goal.invariant-loop-k
-invariant-loop-k l = (l.k ≤ refusal_counts) × (l.next ≡ l.at + 4 * l.k)
-
-abbrev pub decreases-loop-k : goal.decreases-loop-k
-decreases-loop-k l = refusal_counts - l.k
+abbrev pub invariant-loop-count : goal.invariant-loop-count
+invariant-loop-count l = (l.count-index ≤ refusal_counts) × (l.next ≡ l.at + 4 * l.count-index)

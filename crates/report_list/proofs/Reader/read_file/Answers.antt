@@ -1,0 +1,6 @@
+use borrow.Author.Rules.{rules}
+use Rattle.report_list.proofs.Rounds.{reads_on}
+use Rattle.report_list.proofs.Reader.read_file.Goals as goal
+
+pub loop-preserved : goal.loop-preserved
+loop-preserved g c = search (rules, reads_on)

@@ -1,8 +1,0 @@
--- `sheet::refused` meets its contract: it is the sum of the counts.
--- Assumes nothing.
-use borrow.Author.Rules.{rules}
-use Rattle.sheet.proofs.Offering.{sums_refused}
-use Rattle.sheet.proofs.refused.Goals as goal
-
-pub returns : goal.returns
-returns c = search (rules, sums_refused)

@@ -1,0 +1,8 @@
+-- What `unpacking` leaves of a piece leaves room to read on.
+-- Assumes nothing.
+use Rattle.std.proofs.Common.{rules}
+use Rattle.unpack.proofs.Rounds.{unpacks}
+use Rattle.unpack.proofs.UnpackerTaker.take.Goals as goal
+
+pub returns-clause-taken_up : goal.returns-clause-taken_up
+returns-clause-taken_up c = search (rules, unpacks)
