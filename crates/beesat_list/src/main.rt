@@ -4,7 +4,7 @@
 ghost use Rattle.std.specs.Prelude.{◌≡◌, ◌*◌, ◌≤◌, length};
 ghost use Rattle.beesat_list.specs.Sizes.{buffer_bytes};
 
-use streams::{Next, read_on, send, write};
+use streams::{ended, read_on, send, write};
 
 // A line may be longer than its frame, so what is read at once is an eighth of what is written.
 const BUFFER_BYTES: usize = 8192;
@@ -33,16 +33,13 @@ fn list(rt: HostRuntime, buf: &mut [u8], out: &mut [u8])
         counts = listed.state;
         kept = listed.left;
         let read = filled.next;
-        match send(rt, out, listed.to, read, false) {
-            Next::More => {}
-            Next::Failed => {
-                return;
-            }
-            Next::Done => {
-                let n = beesat_listing::close(counts, kept, out);
-                write(rt, &out[..n]);
-                return;
-            }
+        let Some(over) = ended(send(rt, out, listed.to, read, false)) else {
+            return;
+        };
+        if over {
+            let n = beesat_listing::close(counts, kept, out);
+            write(rt, &out[..n]);
+            return;
         }
     }
 }

@@ -90,7 +90,7 @@ pub fn list_piece(counts: Counts, buf: &mut [u8], end: usize, out: &mut [u8]) ->
 {
     let listed = list_frames(counts, &buf[..end], out, 0);
     let left = listed.left;
-    walk::keep(buf, end, left);
+    walk::keep_last(buf, end, left);
     listed
 }
 

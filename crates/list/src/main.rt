@@ -102,7 +102,7 @@ fn tell(rt: HostRuntime) {
 }
 
 fn main(rt: HostRuntime) {
-    let Some(asked) = options::read(rt) else {
+    let Ok(asked) = options::read(rt) else {
         tell(rt);
         return;
     };

@@ -1,11 +1,13 @@
 -- What the program makes of the bits that were read, and what it counts of them.
 -- Assumes nothing.
-use Rattle.std.specs.Prelude.{None, ◌≡◌, false, List, ◌++◌, ℕ, ◌+◌, ◌≤◌, length, take}
+use Rattle.std.specs.Prelude.{Some, None, is_some, ◌≡◌, false, List, ◌++◌, ℕ, ◌+◌, ◌≤◌, length, take}
 use Rattle.base.specs.declared.Edition.{Edition}
 use Rattle.text.specs.Text.{Put}
 use Rattle.marks.specs.declared.State.{State}
 use Rattle.marks.specs.Marked.{marks_of}
 use Rattle.marks.specs.Pieces.{moved_on, grown, marks_at}
+use Rattle.streams.specs.declared.Next.{Next}
+use Rattle.streams.specs.Turns.{read_on, ended_of}
 use Rattle.lines.specs.declared.Tally.{Tally}
 use Rattle.lines.specs.Tallies.{nothing_heard, total_of}
 use Rattle.lines.specs.Recordings.{ending_of}
@@ -18,12 +20,13 @@ pub record AllTold (edition : Edition) (s : State) (piece : List ℕ) (tally : T
   pub few : total_of r ≤ s.total + length piece
   pub counted : r ≡ tally_over edition tally (marks_at s piece 0)
 
--- bits were read: what can be taken is, its marks are told, and `stop` is why no more is taken; only where there is none is more read
-pub record Moves (edition : Edition) (s : State) (tally : Tally) (bits : List ℕ) (r : Turned) : Type 0 where
+-- bits were read: what can be taken is, its marks are told, and `stop` is why no more is taken; only where there is none, and the read was not the last, is more read
+pub record Moves (edition : Edition) (s : State) (tally : Tally) (read : Next) (bits : List ℕ) (r : Turned) : Type 0 where
   pub end_is : r.end ≡ length bits
   pub few : total_of r.tally ≤ r.state.total
   pub state_is : r.state ≡ moved_on s (taken_bits s.total bits)
   pub stop_is : r.stop ≡ why_no_more s.total bits
+  pub over_is : Some r.over ≡ ended_of (read_on read (is_some r.stop))
   pub on : r.over ≡ false → r.stop ≡ None
   pub counted : r.tally ≡ tally_over edition tally (marks_at s (taken_bits s.total bits) 0)
 

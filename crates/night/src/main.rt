@@ -11,7 +11,7 @@ use base::Edition;
 use lines::{Stop, Tally};
 use marks::State;
 use reporting::Opened;
-use streams::{Next, read_on, write};
+use streams::{Next, after_read, ended, read_on, write};
 use word::table::Syndromes;
 
 // How much is read at once, and how much is written.
@@ -84,20 +84,16 @@ impl Searcher {
         out: &mut [u8; BUFFER_BYTES],
     ) -> Option<Turned>
         requires { total_of tally ≤ state.total }
-        ensures { IfSome result (Moves self.now.edition state tally bits.now) }
+        ensures { IfSome result (Moves self.now.edition state tally read bits.now) }
     {
         let taking = reporting::take_front(state, bits);
         let n = taking.n;
         let tally = self.report_all(rt, state, &bits[..n], tally, out)?;
         let state = taking.state;
         let stop = taking.stop;
-        let over = match read {
-            Next::More => stop.is_some(),
-            Next::Done => true,
-            Next::Failed => {
-                return None;
-            }
-        };
+        let stopped = stop.is_some();
+        let next = after_read(read, stopped);
+        let over = ended(next)?;
         Some(Turned {
             state,
             tally,
@@ -181,7 +177,7 @@ fn run(rt: HostRuntime, edition: Edition) {
 
 fn main(rt: HostRuntime) {
     match options::read(rt) {
-        Some(
+        Ok(
             options::Options {
                 strict: false,
                 edition,

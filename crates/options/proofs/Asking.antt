@@ -1,7 +1,7 @@
 -- What words ask for, one by one, and those that were read so far.
 -- Assumes nothing.
 use mathlib.Core.Path.{◌≡◌, refl, sym, ap, ◌∙◌}
-use Rattle.std.specs.Prelude.{Option, None, Some}
+use Rattle.std.specs.Prelude.{Result, Ok, Err}
 use mathlib.Core.List.{List, [], ◌∷◌, ◌++◌}
 use Prim.Native.Nat.{ℕ}
 use Rattle.text.specs.Text.{ascii}
@@ -10,7 +10,7 @@ use Rattle.options.specs.declared.Request.{Request}
 use Rattle.options.specs.declared.Word.{Word}
 use Rattle.options.specs.declared.Word.TheVariants.{Strict, NamesEdition, SaysFlown, SaysCorrected, Other}
 use Rattle.options.proofs.Comparing.{differ}
-use Rattle.options.specs.Words.{word_of, after_of, one_after, after_all, nothing_asked, in_all, all_of, Asked}
+use Rattle.options.specs.Words.{word_of, one_after, after_all, nothing_asked, all_of, Asked}
 
 -- which word some bytes are
 module _ (l : List ℕ) where
@@ -34,26 +34,22 @@ module _ (l : List ℕ) where
   unfolding word_of
   is_other a b c d = rw (differ l (ascii "--strict") a, differ l (ascii "--edition") b, differ l (ascii "flown") c, differ l (ascii "corrected") d)
 
-pub record Asking (asked : Request) : Type 0 where
+pub record Asking (asked : Result Request Request) : Type 0 where
   pub words : List Word
-  pub is : Some asked ≡ after_all (Some nothing_asked) words
+  pub is : asked ≡ after_all (Ok nothing_asked) words
 
-pub starts : Asking nothing_asked
+pub starts : Asking (Ok nothing_asked)
 starts = record { words = []; is = refl }
 
-one_more : (o : Option Request) (ws : List Word) (w : Word) → after_all o (ws ++ w ∷ []) ≡ one_after (after_all o ws) w
+one_more : (o : Result Request Request) (ws : List Word) (w : Word) → after_all o (ws ++ w ∷ []) ≡ one_after (after_all o ws) w
 one_more o [] w = refl
 one_more o (v ∷ ws) w = one_more (one_after o v) ws w
 
-module _ (asked : Request) (so : Asking asked) (w : Word) (r : Option Request) (is : r ≡ after_of asked w) where
-  on : r ≡ after_all (Some nothing_asked) (so.words ++ w ∷ [])
-  on = is ∙ ap (λ (o : Option Request). one_after o w) so.is ∙ sym (one_more (Some nothing_asked) so.words w)
+pub goes_on : (asked : Result Request Request) → Asking asked → (w : Word) (r : Result Request Request) → r ≡ one_after asked w → Asking r
+goes_on asked so w r is = record {
+  words = so.words ++ w ∷ [];
+  is = is ∙ ap (λ (o : Result Request Request). one_after o w) so.is ∙ sym (one_more (Ok nothing_asked) so.words w);
+}
 
-  pub goes_on : (next : Request) → r ≡ Some next → Asking next
-  goes_on next some = record { words = so.words ++ w ∷ []; is = sym some ∙ on }
-
-  pub goes_wrong : r ≡ None → (all : Option Options) → all ≡ None → Asked all
-  goes_wrong none all wrong = record { words = so.words ++ w ∷ []; is = wrong ∙ ap all_of (sym none ∙ on) }
-
-pub ends : (asked : Request) → Asking asked → (r : Option Options) → r ≡ in_all asked → Asked r
+pub ends : (asked : Result Request Request) → Asking asked → (r : Result Options Options) → r ≡ all_of asked → Asked r
 ends asked so r is = record { words = so.words; is = is ∙ ap all_of so.is }

@@ -1,6 +1,6 @@
 -- The words that programs know, and what is asked for by words one after another.
 -- Assumes nothing.
-use Rattle.std.specs.Prelude.{◌≡◌, Bool, true, false, cond, List, [], ◌∷◌, ℕ, eqb, Option, None, Some}
+use Rattle.std.specs.Prelude.{◌≡◌, Bool, true, false, cond, List, [], ◌∷◌, ℕ, eqb, Option, None, Some, Result, Ok, Err}
 use Rattle.base.specs.Checks.{check, first}
 use Rattle.base.specs.declared.Edition.{Edition}
 use Rattle.base.specs.declared.Edition.TheVariants.{Flown, Corrected}
@@ -41,29 +41,34 @@ edition_said NamesEdition = None
 edition_said Other = None
 
 -- after `--edition`
-abbrev pub settled_of : Bool → Option Edition → Option Request
-settled_of strict None = None
-settled_of strict (Some edition) = Some (Complete (record { strict = strict; edition = edition }))
+abbrev pub settled_of : Options → Option Edition → Result Request Request
+settled_of o None = Err (Complete o)
+settled_of o (Some edition) = Ok (Complete (record { strict = o.strict; edition = edition }))
 
 -- elsewhere
-abbrev pub option_by : Options → Word → Option Request
-option_by o NamesEdition = Some (LacksEdition o.strict)
-option_by o Strict = Some (Complete (record { strict = true; edition = o.edition }))
-option_by o SaysFlown = None
-option_by o SaysCorrected = None
-option_by o Other = None
+abbrev pub option_by : Options → Word → Result Request Request
+option_by o NamesEdition = Ok (LacksEdition o)
+option_by o Strict = Ok (Complete (record { strict = true; edition = o.edition }))
+option_by o SaysFlown = Err (Complete o)
+option_by o SaysCorrected = Err (Complete o)
+option_by o Other = Err (Complete o)
 
--- what is asked for with one more word; none where that is wrong there
-abbrev pub after_of : Request → Word → Option Request
-after_of (LacksEdition strict) w = settled_of strict (edition_said w)
+-- what is asked for with one more word; where that is wrong there, what was asked for without it
+abbrev pub after_of : Request → Word → Result Request Request
+after_of (LacksEdition o) w = settled_of o (edition_said w)
 after_of (Complete o) w = option_by o w
 
--- words one after another, up to one that is wrong
-abbrev pub one_after : Option Request → Word → Option Request
-one_after None w = None
-one_after (Some asked) w = after_of asked w
+-- a word was wrong, and stays so
+abbrev pub wrongly : {A : Type 0} → Result A A → Result A A
+wrongly (Ok asked) = Err asked
+wrongly (Err asked) = Err asked
 
-abbrev pub after_all : Option Request → List Word → Option Request
+-- words one after another
+abbrev pub one_after : Result Request Request → Word → Result Request Request
+one_after (Ok asked) w = after_of asked w
+one_after (Err asked) w = wrongly (after_of asked w)
+
+abbrev pub after_all : Result Request Request → List Word → Result Request Request
 after_all asked [] = asked
 after_all asked (w ∷ ws) = after_all (one_after asked w) ws
 
@@ -72,15 +77,15 @@ abbrev pub nothing_asked : Request
 nothing_asked = Complete (record { strict = false; edition = Flown })
 
 -- one that is still to come after `--edition` is missing
-abbrev pub in_all : Request → Option Options
-in_all (Complete o) = Some o
-in_all (LacksEdition strict) = None
+abbrev pub in_all : Request → Result Options Options
+in_all (Complete o) = Ok o
+in_all (LacksEdition o) = Err o
 
-abbrev pub all_of : Option Request → Option Options
-all_of None = None
-all_of (Some asked) = in_all asked
+abbrev pub all_of : Result Request Request → Result Options Options
+all_of (Ok asked) = in_all asked
+all_of (Err asked) = wrongly (in_all asked)
 
 -- what is asked for by the words that the system hands over
-pub record Asked (r : Option Options) : Type 0 where
+pub record Asked (r : Result Options Options) : Type 0 where
   pub words : List Word
-  pub is : r ≡ all_of (after_all (Some nothing_asked) words)
+  pub is : r ≡ all_of (after_all (Ok nothing_asked) words)

@@ -3,7 +3,7 @@
 
 ghost use Rattle.std.specs.Prelude.{◌≡◌};
 ghost use Rattle.options.specs.Numbers.{number_after, parsed_of, Said};
-ghost use Rattle.options.specs.Words.{word_of, Given, edition_said, after_of, in_all, Asked};
+ghost use Rattle.options.specs.Words.{word_of, Given, edition_said, after_of, one_after, in_all, all_of, Asked};
 
 use base::Edition;
 use std::env::{Env, FillError};
@@ -38,11 +38,11 @@ impl Word {
     }
 }
 
-// What the words so far ask for: either that is all of it, or the word after `--edition` is still to come, and they say whether to be strict.
+// What the words so far ask for: either that is all of it, or the word after `--edition` is still to come.
 #[derive(Clone, Copy)]
 enum Request {
     Complete(Options),
-    LacksEdition(bool),
+    LacksEdition(Options),
 }
 
 // Room for the longest of the words that programs know, and more.
@@ -78,33 +78,62 @@ pub fn word_at(rt: HostRuntime, i: usize) -> Word
     }
 }
 
-// What is asked for with one more word. None where that is wrong there.
-fn after(asked: Request, word: Word) -> Option<Request>
+// What is asked for with one more word: Err, without it, where it is wrong there.
+fn after(asked: Request, word: Word) -> Result<Request, Request>
     ensures { result ≡ after_of asked word }
 {
-    match (asked, word) {
-        (Request::LacksEdition(strict), word) => {
-            let edition = word.edition()?;
-            Some(Request::Complete(Options { strict, edition }))
-        }
-        (Request::Complete(options), Word::Strict) => Some(Request::Complete(Options {
-            strict: true,
-            edition: options.edition,
-        })),
-        (Request::Complete(options), Word::NamesEdition) => Some(Request::LacksEdition(
-            options.strict,
-        )),
-        (Request::Complete(_), Word::SaysFlown | Word::SaysCorrected | Word::Other) => None,
+    match asked {
+        Request::LacksEdition(options) => match word.edition() {
+            Some(edition) => Ok(Request::Complete(Options {
+                strict: options.strict,
+                edition,
+            })),
+            None => Err(Request::Complete(options)),
+        },
+        Request::Complete(options) => match word {
+            Word::Strict => Ok(Request::Complete(Options {
+                strict: true,
+                edition: options.edition,
+            })),
+            Word::NamesEdition => Ok(Request::LacksEdition(options)),
+            Word::SaysFlown | Word::SaysCorrected | Word::Other => {
+                Err(Request::Complete(options))
+            }
+        },
+    }
+}
+
+// The same where a word before may have been wrong: what follows is heeded still, and it stays an Err.
+fn one_after(asked: Result<Request, Request>, word: Word) -> Result<Request, Request>
+    ensures { result ≡ one_after asked word }
+{
+    match asked {
+        Ok(asked) => after(asked, word),
+        Err(asked) => match after(asked, word) {
+            Ok(next) | Err(next) => Err(next),
+        },
     }
 }
 
 // What is asked for after the last word. One that is still to come after `--edition` is missing.
-fn in_all(asked: Request) -> Option<Options>
+fn in_all(asked: Request) -> Result<Options, Options>
     ensures { result ≡ in_all asked }
 {
     match asked {
-        Request::Complete(options) => Some(options),
-        Request::LacksEdition(_) => None,
+        Request::Complete(options) => Ok(options),
+        Request::LacksEdition(options) => Err(options),
+    }
+}
+
+// The same where a word may have been wrong.
+fn all_of(asked: Result<Request, Request>) -> Result<Options, Options>
+    ensures { result ≡ all_of asked }
+{
+    match asked {
+        Ok(asked) => in_all(asked),
+        Err(asked) => match in_all(asked) {
+            Ok(options) | Err(options) => Err(options),
+        },
     }
 }
 
@@ -121,18 +150,18 @@ fn word_count(rt: HostRuntime) -> usize {
     usize::MAX
 }
 
-// Reads the words. None where one of them is wrong or is missing.
-pub fn read(rt: HostRuntime) -> Option<Options>
+// Reads the words. Err where one of them is wrong or is missing, with what the others ask for.
+pub fn read(rt: HostRuntime) -> Result<Options, Options>
     ensures { Asked result }
 {
-    let mut asked = Request::Complete(Options {
+    let mut asked = Ok(Request::Complete(Options {
         strict: false,
         edition: Edition::Flown,
-    });
+    }));
     for i in 1..word_count(rt) {
-        asked = after(asked, word_at(rt, i))?;
+        asked = one_after(asked, word_at(rt, i));
     }
-    in_all(asked)
+    all_of(asked)
 }
 
 // Tells of a wrong word, and of the right ones, where a program takes an edition and no other word.

@@ -408,7 +408,7 @@ pub fn pack_piece(lines: u64, buf: &mut [u8], end: usize, out: &mut [u8]) -> Lis
 {
     let packed = pack_lines(lines, &buf[..end], out, 0);
     let left = packed.left;
-    walk::keep(buf, end, left);
+    walk::keep_last(buf, end, left);
     packed
 }
 

@@ -19,7 +19,7 @@ use report_listing::rows::put_rows;
 use std::env::{Env, FillError};
 use std::io::{ErrorKind, Read, Write};
 use std::{fs, io};
-use streams::{Filled, Next, after_read, write};
+use streams::{Filled, Next, after_read, ended, write};
 use word::table::Syndromes;
 
 // The most files: a byte of a buffer for each.
@@ -158,14 +158,10 @@ impl Reader {
             left = taken.left;
             let read = filled.next;
             let ending = taken.ending;
-            match after_read(read, is_over(ending)) {
-                Next::More => {}
-                Next::Done => {
-                    return Some(Heard { pass, left });
-                }
-                Next::Failed => {
-                    return None;
-                }
+            let next = after_read(read, is_over(ending));
+            let over = ended(next)?;
+            if over {
+                return Some(Heard { pass, left });
             }
         }
         None

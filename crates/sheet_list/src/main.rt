@@ -81,7 +81,7 @@ fn run(rt: HostRuntime, edition: Edition) {
 
 fn main(rt: HostRuntime) {
     match options::read(rt) {
-        Some(
+        Ok(
             options::Options {
                 strict: false,
                 edition,

@@ -3,7 +3,7 @@
 
 ghost use Rattle.std.specs.Prelude.{◌≡◌, ◌+◌, ◌-◌, ◌%◌, ◌^◌, ◌<◌, ◌≤◌, false, length};
 ghost use Rattle.streams.specs.declared.Next.TheVariants.{More};
-ghost use Rattle.streams.specs.Turns.{ReadOn, read_on, onward_of};
+ghost use Rattle.streams.specs.Turns.{ReadOn, read_on, onward_of, done_of, ended_of, TurnsLeft};
 
 pub mod pump;
 
@@ -159,6 +159,34 @@ pub fn send(rt: HostRuntime, out: &[u8], to: usize, read: Next, over: bool) -> N
 {
     let wrote = write(rt, &out[..to]);
     after_write(after_read(read, over), wrote)
+}
+
+// Whether all that is wanted has come and was written.
+pub fn is_done(next: Next) -> bool
+    ensures { result ≡ done_of next }
+{
+    next == Next::Done
+}
+
+// Whether a program's turns have ended, after one that says how to go on: not while there is more to read. None where a read or a write failed.
+pub fn ended(next: Next) -> Option<bool>
+    ensures { result ≡ ended_of next }
+{
+    match next {
+        Next::More | Next::Done => Some(is_done(next)),
+        Next::Failed => None,
+    }
+}
+
+// The turns that are left: none, unless there is more to read.
+pub fn turns_left(turns: u64, next: Next) -> u64
+    requires { 0 < turns }
+    ensures { TurnsLeft turns next result }
+{
+    match next {
+        Next::More => turns - 1,
+        Next::Done | Next::Failed => 0,
+    }
 }
 
 // The place in an input of a buffer's front, where `left` of the `end` bytes in the buffer are left. A place past 2^64, which no input

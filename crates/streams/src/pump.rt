@@ -1,9 +1,10 @@
 // The turns of a program: standard input is read on, what was read is taken, and what that gives is written, until there is no more, or no more is wanted.
 
-ghost use Rattle.std.specs.Prelude.{ℕ, ◌<◌, ◌≤◌, length, IfSome};
+ghost use Rattle.std.specs.Prelude.{◌≡◌, ℕ, ◌<◌, ◌≤◌, length, IfSome};
 ghost use Rattle.streams.specs.Pump.{TakenUp};
+ghost use Rattle.streams.specs.declared.Next.TheVariants.{Done};
 
-use crate::{Next, moved_on, read_on, send};
+use crate::{Next, ended, moved_on, read_on, send};
 
 // What was made of a piece: so many of its bytes are left at the buffer's front, and so many bytes of the output are to be written; `over` where no more
 // is wanted, whatever follows.
@@ -35,6 +36,9 @@ pub trait Taker {
 pub struct Rest {
     pub left: usize,
     pub place: u64,
+    // How the last turn went: neither its read nor its write failed, and no more is wanted.
+    pub next: Next,
+    ghost done: { next ≡ Done },
 }
 
 // Reads standard input to its end, or until no more is wanted. None where a read or a write failed, which was told: no run has 2^64 - 1
@@ -56,14 +60,9 @@ pub fn pump<T: Taker>(
         let turn = taker.take(buf, filled.end, out);
         place = moved_on(place, filled.end, turn.left);
         left = turn.left;
-        match send(rt, out, turn.to, filled.next, turn.over) {
-            Next::More => {}
-            Next::Done => {
-                return Some(Rest { left, place });
-            }
-            Next::Failed => {
-                return None;
-            }
+        let next = send(rt, out, turn.to, filled.next, turn.over);
+        if ended(next)? {
+            return Some(Rest { left, place, next });
         }
     }
     None

@@ -4,7 +4,7 @@ use mathlib.Core.Path.{◌≡◌, refl, ap, ◌∙◌}
 use mathlib.Core.List.{List, [], ◌++◌, append_assoc, append-nil}
 use Prim.Native.Nat.{ℕ, ◌+◌, ◌*◌, ◌<◌, ◌≤◌}
 use native.Mathlib.Omega.{arith}
-use native.Mathlib.Nat.{mul-le-mul_left, mul-add}
+use native.Mathlib.Nat.{mul-add}
 use lib.ListN.{length, drop, length-drop}
 use Rattle.text.specs.Text.{Put}
 use Rattle.text.proofs.Laid.{put_none, put_then}

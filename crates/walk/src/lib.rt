@@ -2,7 +2,7 @@
 // (proofs/) that every listing cites, whatever it cuts off; what the functions of a listing answer; and what is left of a buffer is kept.
 #![tactic(auto)]
 
-ghost use Rattle.std.specs.Prelude.{◌-◌, ◌≤◌, length};
+ghost use Rattle.std.specs.Prelude.{◌+◌, ◌-◌, ◌≤◌, length};
 ghost use Rattle.walk.specs.Moves.{Moved};
 
 // A text was put, the title or that of an item: what is kept then, and the place after the text.
@@ -30,11 +30,19 @@ pub struct Counted<S, E> {
     pub ending: E,
 }
 
+// Moves the n bytes from `from` on to the front.
+pub fn keep(buf: &mut [u8], from: usize, n: usize)
+    requires { from + n ≤ length buf.old }
+    ensures { Moved buf.old from n buf.new }
+{
+    buf.copy_within(from..from + n, 0);
+}
+
 // Moves what is left of the first `end` bytes to the front: their last `left` bytes.
-pub fn keep(buf: &mut [u8], end: usize, left: usize)
+pub fn keep_last(buf: &mut [u8], end: usize, left: usize)
     requires left_le_end { left ≤ end }
     requires end_in_bounds { end ≤ length buf.old }
     ensures { Moved buf.old (end - left) left buf.new }
 {
-    buf.copy_within(end - left..end, 0);
+    keep(buf, end - left, left);
 }

@@ -19,8 +19,8 @@ send-requires c = search (rules, text_inside)
 pub loop-turn-preserved : goal.loop-turn-preserved
 loop-turn-preserved c = search (rules, counts_on)
 
-pub slice_bounds-write-end-in-Done-2 : goal.slice_bounds-write-end-in-Done-2
-slice_bounds-write-end-in-Done-2 c = search (rules, put_size)
+pub slice_bounds-write-end-then-over-2 : goal.slice_bounds-write-end-then-over-2
+slice_bounds-write-end-then-over-2 c = search (rules, put_size)
 
 pub close-n-requires-clause-counts_bound : goal.close-n-requires-clause-counts_bound
 close-n-requires-clause-counts_bound c = search (rules, closes)

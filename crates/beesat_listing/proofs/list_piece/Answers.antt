@@ -13,8 +13,8 @@ slice_bounds-list_frames-end-2 c = search (rules, part_size)
 pub list_frames-listed-requires : goal.list_frames-listed-requires
 list_frames-listed-requires c = search (rules, part_few, part_fits)
 
-pub keep-requires-clause-left_le_end : goal.keep-requires-clause-left_le_end
-keep-requires-clause-left_le_end c = search (rules, left_inside, frame_sound)
+pub keep_last-requires-clause-left_le_end : goal.keep_last-requires-clause-left_le_end
+keep_last-requires-clause-left_le_end c = search (rules, left_inside, frame_sound)
 
 pub returns : goal.returns
 returns c = search (rules, left_inside, frame_sound)

@@ -12,8 +12,8 @@ slice_bounds-pack_lines-end-2 c = search (rules, part_size)
 pub pack_lines-packed-requires : goal.pack_lines-packed-requires
 pack_lines-packed-requires c = search (rules, part_fits)
 
-pub keep-requires-clause-left_le_end : goal.keep-requires-clause-left_le_end
-keep-requires-clause-left_le_end c = search (rules, left_inside, pack_sound)
+pub keep_last-requires-clause-left_le_end : goal.keep_last-requires-clause-left_le_end
+keep_last-requires-clause-left_le_end c = search (rules, left_inside, pack_sound)
 
 pub returns : goal.returns
 returns c = search (rules, left_inside, pack_sound)

@@ -12,8 +12,8 @@ slice_bounds-list_records-end-2 c = search (rules, part_size)
 pub list_records-listed-requires : goal.list_records-listed-requires
 list_records-listed-requires c = search (rules, part_fits)
 
-pub keep-requires-clause-left_le_end : goal.keep-requires-clause-left_le_end
-keep-requires-clause-left_le_end c = search (rules, left_inside, page_sound)
+pub keep_last-requires-clause-left_le_end : goal.keep_last-requires-clause-left_le_end
+keep_last-requires-clause-left_le_end c = search (rules, left_inside, page_sound)
 
 pub returns : goal.returns
 returns c = search (rules, left_inside, page_sound)

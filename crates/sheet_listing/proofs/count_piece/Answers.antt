@@ -8,8 +8,8 @@ use Rattle.sheet_listing.proofs.count_piece.Goals as goal
 pub slice_bounds-count_records-end-2 : goal.slice_bounds-count_records-end-2
 slice_bounds-count_records-end-2 c = search (rules, part_size)
 
-pub keep-requires-clause-left_le_end : goal.keep-requires-clause-left_le_end
-keep-requires-clause-left_le_end c = search (rules, left_inside)
+pub keep_last-requires-clause-left_le_end : goal.keep_last-requires-clause-left_le_end
+keep_last-requires-clause-left_le_end c = search (rules, left_inside)
 
 pub returns : goal.returns
 returns c = search (rules, left_inside)

@@ -12,8 +12,8 @@ slice_bounds-unpack_records-end-2 c = search (rules, part_size)
 pub unpack_records-unpacked-requires : goal.unpack_records-unpacked-requires
 unpack_records-unpacked-requires c = search (rules, part_fits)
 
-pub keep-requires-clause-left_le_end : goal.keep-requires-clause-left_le_end
-keep-requires-clause-left_le_end c = search (rules, left_inside, line_sound)
+pub keep_last-requires-clause-left_le_end : goal.keep_last-requires-clause-left_le_end
+keep_last-requires-clause-left_le_end c = search (rules, left_inside, line_sound)
 
 pub returns : goal.returns
 returns c = search (rules, left_inside, line_sound)
