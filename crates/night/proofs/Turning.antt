@@ -1,7 +1,7 @@
 -- That all turns together search a recording: each takes what can be taken of the bytes that were read.
 -- Assumes nothing.
 use Rattle.std.specs.Prelude.{Option, None, Some, is_some, IfSome}
-use Rattle.std.proofs.lemmas.Option.{IfSome_then}
+use Rattle.std.proofs.lemmas.Option.{IfSome_then, none-some, same_Some}
 use mathlib.Core.Path.{◌≡◌, refl, sym, ap, ◌∙◌}
 use mathlib.Core.Bool.{Bool, true, false, true≢false}
 use mathlib.Core.List.{List, [], ◌++◌}
@@ -16,8 +16,8 @@ use Rattle.lines.specs.Tallies.{nothing_heard, total_of}
 use Rattle.lines.specs.Recordings.{Stop, ending_of}
 use Rattle.streams.specs.declared.Filled.{Filled}
 use Rattle.streams.specs.declared.Next.{Next}
+use Rattle.streams.specs.declared.Next.TheVariants.{More, Done, Failed}
 use Rattle.streams.specs.Turns.{ReadOn, read_on, ended_of}
-use Rattle.streams.proofs.Reading.{read_open, not_ended}
 use Rattle.marks.specs.declared.State.{State}
 use Rattle.marks.specs.Marked.{marks_of}
 use Rattle.marks.specs.Pieces.{fresh_state, moved_on, grown, marks_at}
@@ -28,7 +28,7 @@ use Rattle.reporting.specs.Takings.{why_no_more, taken_bits, taking_of}
 use Rattle.reporting.proofs.Telling.{tally_append, tally_none}
 use Rattle.reporting.proofs.Fronts.{taken_front, taken_state, taken_stop, taken_total}
 use Rattle.night.specs.declared.Turned.{Turned}
-use Rattle.night.specs.Turns.{AllTold, Moves, Heard, Goes, Whole, Closing}
+use Rattle.night.specs.Turns.{AllTold, Moves, MovesOn, Heard, Goes, Whole, Closing}
 
 -- what a function gives where it gives something
 went_well : {A : Type 0} (P : A → Type 0) (r : Option A) → IfSome r P → (so : A) → r ≡ Some so → P so
@@ -39,26 +39,46 @@ no_stop : (stop : Stop) → is_some stop ≡ false → stop ≡ None
 no_stop None on = refl
 no_stop (Some why) on = absurd (true≢false on)
 
+-- where there is more to read, the turns have ended just where the search stopped
+more_ended : (stopped : Bool) → ended_of (read_on More stopped) ≡ Some stopped
+more_ended false = refl
+more_ended true = refl
+
 -- BITS, after what is taken of them
 module _ (edition : Edition) (s : State) (tally : Tally) (bits : List ℕ) (t : Taking) (is : t ≡ taking_of s bits) (r : Option Tally)
     (ends : IfSome r (AllTold edition s (take t.n bits) tally)) (so : Tally) (went : r ≡ Some so) where
   told : AllTold edition s (take t.n bits) tally so
   told = went_well (AllTold edition s (take t.n bits) tally) r ends so went
 
+  moves : (over : Bool) → (over ≡ false → t.stop ≡ None) → Moves edition s tally bits (record { state = t.state; tally = so; stop = t.stop; end = length bits; over = over })
+  moves over on = record {
+    end_is = refl;
+    few = omega (arith, told.few, taken_total s bits t is);
+    state_is = taken_state s bits t is;
+    stop_is = taken_stop s bits t is;
+    on = on;
+    counted = rw (← (taken_front s bits t is)) told.counted;
+  }
+
+  pub moves_more : (over : Bool) → over ≡ is_some t.stop → Moves edition s tally bits (record { state = t.state; tally = so; stop = t.stop; end = length bits; over = over })
+  moves_more over on = moves over (λ e. no_stop t.stop (sym on ∙ e))
+
+  pub moves_done : Moves edition s tally bits (record { state = t.state; tally = so; stop = t.stop; end = length bits; over = true })
+  moves_done = moves true (λ e. absurd (true≢false e))
+
+  -- whichever way the read went
+  moves_by : (read : Next) (over : Bool) → Some over ≡ ended_of (read_on read (is_some t.stop))
+      → Moves edition s tally bits (record { state = t.state; tally = so; stop = t.stop; end = length bits; over = over })
+  moves_by More over e = moves_more over (same_Some over (is_some t.stop) (e ∙ more_ended (is_some t.stop)))
+  moves_by Done over e = rw (same_Some over true e) moves_done
+  moves_by Failed over e = absurd (none-some over (sym e))
+
   pub moves_on : (read next : Next) (stopped : Bool) → stopped ≡ is_some t.stop → next ≡ read_on read stopped → (ended : Option Bool) → ended ≡ ended_of next
-      → (over : Bool) → ended ≡ Some over → Moves edition s tally read bits (record { state = t.state; tally = so; stop = t.stop; end = length bits; over = over })
+      → (over : Bool) → ended ≡ Some over → MovesOn edition s tally read bits (record { state = t.state; tally = so; stop = t.stop; end = length bits; over = over })
   moves_on read next stopped stop_is next_is ended ended_is over over_is =
       let on : Some over ≡ ended_of (read_on read (is_some t.stop)) =
       sym over_is ∙ ended_is ∙ ap ended_of (next_is ∙ ap (read_on read) stop_is) in
-      record {
-        end_is = refl;
-        few = omega (arith, told.few, taken_total s bits t is);
-        state_is = taken_state s bits t is;
-        stop_is = taken_stop s bits t is;
-        over_is = on;
-        on = λ more. no_stop t.stop (read_open read (is_some t.stop) (not_ended (read_on read (is_some t.stop)) (Some over) on over refl more));
-        counted = rw (← (taken_front s bits t is)) told.counted;
-      }
+      record { moves = moves_by read over on; over_is = on }
 
 -- A TURN
 heard_on : (edition : Edition) (recording : List ℕ) (s : State) (tally : Tally) → Heard edition recording s tally → (piece : List ℕ) (s' : State) (tally' : Tally)
@@ -79,7 +99,7 @@ pub read_size : (buf : List ℕ) (kept : ℕ) (r : Filled) (buf' : List ℕ) →
 read_size buf kept r buf' read same = part_size buf' r.end (omega (arith, read.inside, same))
 
 turn_goes : (edition : Edition) (s : State) (tally : Tally) (buf : List ℕ) (filled : Filled) (buf' : List ℕ) → ReadOn buf 0 filled → length buf' ≡ length buf
-    → (r : Turned) → Moves edition s tally filled.next (take filled.end buf') r → Goes edition s tally buf' r
+    → (r : Turned) → Moves edition s tally (take filled.end buf') r → Goes edition s tally buf' r
 turn_goes edition s tally buf filled buf' read same r moved =
     let bits : List ℕ = take filled.end buf' in
     let end : r.end ≡ filled.end = moved.end_is ∙ sym (read_size buf 0 filled buf' read same) in
@@ -93,8 +113,13 @@ turn_goes edition s tally buf filled buf' read same r moved =
     }
 
 pub turn_goes_if : (edition : Edition) (s : State) (tally : Tally) (buf : List ℕ) (filled : Filled) (buf' : List ℕ) → ReadOn buf 0 filled → length buf' ≡ length buf
-    → (r : Option Turned) → IfSome r (Moves edition s tally filled.next (take filled.end buf')) → IfSome r (Goes edition s tally buf')
+    → (r : Option Turned) → IfSome r (Moves edition s tally (take filled.end buf')) → IfSome r (Goes edition s tally buf')
 turn_goes_if edition s tally buf filled buf' read same r moved = IfSome_then r moved (turn_goes edition s tally buf filled buf' read same)
+
+pub turn_goes_on_if : (edition : Edition) (s : State) (tally : Tally) (buf : List ℕ) (filled : Filled) (buf' : List ℕ) → ReadOn buf 0 filled → length buf' ≡ length buf
+    → (r : Option Turned) → IfSome r (MovesOn edition s tally filled.next (take filled.end buf')) → IfSome r (Goes edition s tally buf')
+turn_goes_on_if edition s tally buf filled buf' read same r moved =
+    turn_goes_if edition s tally buf filled buf' read same r (IfSome_then r moved (λ so on. on.moves))
 
 -- ALL TURNS: the buffers keep their lengths, no more headers are counted than bits were taken, and these are the bits and headers of a recording
 pub record Ready (edition : Edition) (size : ℕ) (buf out : List ℕ) (s : State) (tally : Tally) : Type 0 where

@@ -20,15 +20,19 @@ pub record AllTold (edition : Edition) (s : State) (piece : List ℕ) (tally : T
   pub few : total_of r ≤ s.total + length piece
   pub counted : r ≡ tally_over edition tally (marks_at s piece 0)
 
--- bits were read: what can be taken is, its marks are told, and `stop` is why no more is taken; only where there is none, and the read was not the last, is more read
-pub record Moves (edition : Edition) (s : State) (tally : Tally) (read : Next) (bits : List ℕ) (r : Turned) : Type 0 where
+-- bits were read: what can be taken is, its marks are told, and `stop` is why no more is taken; only where there is none is more read
+pub record Moves (edition : Edition) (s : State) (tally : Tally) (bits : List ℕ) (r : Turned) : Type 0 where
   pub end_is : r.end ≡ length bits
   pub few : total_of r.tally ≤ r.state.total
   pub state_is : r.state ≡ moved_on s (taken_bits s.total bits)
   pub stop_is : r.stop ≡ why_no_more s.total bits
-  pub over_is : Some r.over ≡ ended_of (read_on read (is_some r.stop))
   pub on : r.over ≡ false → r.stop ≡ None
   pub counted : r.tally ≡ tally_over edition tally (marks_at s (taken_bits s.total bits) 0)
+
+-- and the read did not fail; no more is read just where it was the last, or the search stopped
+pub record MovesOn (edition : Edition) (s : State) (tally : Tally) (read : Next) (bits : List ℕ) (r : Turned) : Type 0 where
+  pub moves : Moves edition s tally bits r
+  pub over_is : Some r.over ≡ ended_of (read_on read (is_some r.stop))
 
 -- the state after the bits of a recording, and the tally of the headers of all its marks
 pub record Heard (edition : Edition) (recording : List ℕ) (s : State) (tally : Tally) : Type 0 where

@@ -5,7 +5,7 @@
 ghost use Rattle.std.specs.Prelude.{◌≡◌, ◌+◌, ◌≤◌, IfSome, length};
 ghost use Rattle.lines.specs.Tallies.{nothing_heard, total_of};
 ghost use Rattle.marks.specs.Pieces.{longest_recording, fresh_state};
-ghost use Rattle.night.specs.Turns.{AllTold, Moves, Goes, Whole, Closing};
+ghost use Rattle.night.specs.Turns.{AllTold, MovesOn, Goes, Whole, Closing};
 
 use base::Edition;
 use lines::{Stop, Tally};
@@ -84,7 +84,7 @@ impl Searcher {
         out: &mut [u8; BUFFER_BYTES],
     ) -> Option<Turned>
         requires { total_of tally ≤ state.total }
-        ensures { IfSome result (Moves self.now.edition state tally read bits.now) }
+        ensures { IfSome result (MovesOn self.now.edition state tally read bits.now) }
     {
         let taking = reporting::take_front(state, bits);
         let n = taking.n;
