@@ -29,7 +29,7 @@ pub record Moves (edition : Edition) (s : State) (tally : Tally) (bits : List �
   pub on : r.over ≡ false → r.stop ≡ None
   pub counted : r.tally ≡ tally_over edition tally (marks_at s (taken_bits s.total bits) 0)
 
--- and the read did not fail; no more is read just where it was the last, or the search stopped
+-- the same after a read that did not fail, and how the search goes on: no more is read just where that read was the last, or the search stopped
 pub record MovesOn (edition : Edition) (s : State) (tally : Tally) (read : Next) (bits : List ℕ) (r : Turned) : Type 0 where
   pub moves : Moves edition s tally bits r
   pub over_is : Some r.over ≡ ended_of (read_on read (is_some r.stop))
